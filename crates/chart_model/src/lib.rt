@@ -1,0 +1,17 @@
+//! State charts as values: their memories, states, transitions, guards and actions, with all that a chart keeps.
+#![tactic(auto)]
+
+mod action;
+mod chart;
+mod guard;
+mod state;
+mod transition;
+
+// #[cfg(test)]
+// mod tests;
+
+pub use action::{Action, Place};
+pub use chart::Chart;
+pub use guard::{Guard, guard_holds};
+pub use state::{Memory, State};
+pub use transition::Transition;

@@ -1,0 +1,5 @@
+pub mod Padding
+pub mod Spelling
+pub mod Ranges
+pub mod Products
+pub mod CallerLemmas

@@ -1,0 +1,5 @@
+pub mod Words
+pub mod LineLemmas
+pub mod Scanning
+pub mod Numbers
+pub mod Reading

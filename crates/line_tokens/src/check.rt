@@ -1,0 +1,160 @@
+ghost use Rattle.std.specs.Prelude.{◌≡◌, ℕ, ◌+◌, ◌<◌, ◌≤◌, pos, true, false, List, length, map, count_by, codes, ◌||◌, All, IfOk, IfErr, MatchOption, MatchResult, Option, Some, None};
+ghost use Rattle.std.specs.List.{list_all};
+ghost use Rattle.line_tokens.specs.Spelling.{starts, is_token, decimal_value, symbol_number, word_of};
+ghost use Rattle.lin_form.specs.Name.{starts_name};
+ghost use Rattle.std.specs.Char.{is_ascii_digit};
+ghost use Rattle.line_tokens.specs.Tokens.{HasPlaces, IsPlace, IsInside, run, token_at};
+ghost use Rattle.line_tokens.specs.Limits.{IsRead, IsRefused, IsLimited, first_limit, word_limit, token_limit, largest_literal, is_word, is_nesting};
+
+use std::alloc::Global;
+
+use crate::error::{TokenError, TokenLimit};
+use crate::line::content;
+use crate::place::Place;
+use crate::scan::places;
+use crate::token::{Token, Word, is_spelled};
+use crate::word::{begins_with_name, begins_with_number};
+
+const MOST_NAME_BYTES: usize = 32;
+const MOST_TOKENS: usize = 1_024;
+const MOST_NESTING: usize = 64;
+
+/// The value of a run of digits, or None where it is above `most`.
+fn number_value(digits: &[u8], most: u64) -> Option<u64>
+    requires digits { list_all is_ascii_digit digits.now ≡ true }
+    requires bound { most ≤ 1_000_000_000_000 }
+    ensures { MatchOption result (most < decimal_value digits.now) (λ v. (v ≡ decimal_value digits.now) × (v ≤ most)) }
+{
+    let mut value = 0;
+    for digit in digits {
+        value = 10 * value + (*digit - b'0') as u64;
+        if value > most {
+            return None;
+        }
+    }
+    Some(value)
+}
+
+fn largest(after_gives: bool) -> u64
+    ensures value { result ≡ largest_literal after_gives }
+    ensures bound { result ≤ 1_000_000_000_000 }
+{
+    if after_gives { 1_000_000_000_000 } else { 1_000_000 }
+}
+
+fn symbol(bytes: &[u8]) -> u8
+    requires token { is_token bytes.now ≡ true }
+    requires no_name { starts starts_name bytes.now ≡ false }
+    requires no_number { starts is_ascii_digit bytes.now ≡ false }
+    ensures { result ≡ symbol_number bytes.now }
+{
+    if bytes.len() > 1 { bytes[0] + 128 } else { bytes[0] }
+}
+
+/// The word that a token spells, or the limit that it passes.
+fn word(bytes: &[u8], after_gives: bool) -> Result<Word, TokenLimit>
+    requires { is_token bytes.now ≡ true }
+    ensures { MatchResult result (λ w. (w ≡ word_of bytes.now) × (word_limit after_gives w (length bytes.now) ≡ None)) (λ l. word_limit after_gives (word_of bytes.now) (length bytes.now) ≡ Some l) }
+{
+    if begins_with_name(bytes) {
+        if bytes.len() > MOST_NAME_BYTES {
+            return Err(TokenLimit::NameBytes);
+        }
+        return Ok(Word::Name);
+    }
+    if begins_with_number(bytes) {
+        return match number_value(bytes, largest(after_gives)) {
+            Some(value) => Ok(Word::Number(value as i64)),
+            None => Err(TokenLimit::Literal),
+        };
+    }
+    Ok(Word::Symbol(symbol(bytes)))
+}
+
+/// The token at a place of the line, or the limit that it passes.
+fn token(line: &[u8], place: Place, after_gives: bool) -> Result<Token, TokenLimit>
+    requires { IsPlace line.now place }
+    ensures { MatchResult result (λ t. (t ≡ token_at line.now place) × (token_limit after_gives t ≡ None)) (λ l. token_limit after_gives (token_at line.now place) ≡ Some l) }
+{
+    let word = word(&line[place.from..place.to], after_gives)?;
+    Ok(Token {
+        word,
+        from: place.from,
+        to: place.to,
+    })
+}
+
+fn stands_after_gives(line: &[u8], token: &Token, after_gives: bool) -> bool
+    requires { IsInside line.now token.now }
+    ensures { result ≡ (after_gives || is_word line.now (codes "gives") token.now) }
+{
+    after_gives || is_spelled(line, token, b"gives")
+}
+
+/// The tokens at these places, or the first limit on numbers and names that they pass.
+fn read(alloc: Global, line: &[u8], places: &[Place]) -> Result<Vec<Token>, TokenError>
+    requires { HasPlaces line.now 0 places.now }
+    ensures ok { IfOk result (λ v. (v.items ≡ map (token_at line.now) places.now) × (first_limit line.now false v.items ≡ None)) }
+    ensures err { IfErr result (λ e. IsLimited line.now (map (token_at line.now) places.now) e) }
+{
+    let mut tokens = Vec::new(alloc);
+    let mut after_gives = false;
+    'places: for place in places {
+        let token = match token(line, *place, after_gives) {
+            Ok(token) => token,
+            Err(limit) => return Err(TokenError::Limit(limit)),
+        };
+        after_gives = stands_after_gives(line, &token, after_gives);
+        if tokens.push(token).is_err() {
+            return Err(TokenError::Memory);
+        }
+    }
+    Ok(tokens)
+}
+
+fn nests(line: &[u8], token: &Token) -> bool
+    requires { IsInside line.now token.now }
+    ensures { result ≡ is_nesting line.now token.now }
+{
+    is_spelled(line, token, b"(") || is_spelled(line, token, b"not")
+}
+
+/// How many of the tokens are `(` or `not`.
+fn nesting(line: &[u8], tokens: &[Token]) -> usize
+    requires { All (IsInside line.now) tokens.now }
+    ensures { result ≡ count_by (is_nesting line.now) tokens.now }
+{
+    let mut count = 0;
+    for token in tokens {
+        if nests(line, token) {
+            count += 1;
+        }
+    }
+    count
+}
+
+/// The tokens of a line, or the first fault or limit that they show: a byte that is not allowed or begins no token,
+/// then a number or a name that is too large, then too many tokens, then too much nesting.
+pub fn line_tokens(alloc: Global, line: &[u8]) -> Result<Vec<Token>, TokenError>
+    ensures ok { IfOk result (λ v. IsRead line.now v.items) }
+    ensures err { IfErr result (λ e. IsRefused line.now e) }
+{
+    let content = content(line);
+    let Ok(found) = places(alloc, content) else {
+        return Err(TokenError::Memory);
+    };
+    let Some(places) = found else {
+        return Err(TokenError::Byte);
+    };
+    let tokens = match read(alloc, content, places.as_slice()) {
+        Ok(tokens) => tokens,
+        Err(error) => return Err(error),
+    };
+    if tokens.len() > MOST_TOKENS {
+        return Err(TokenError::Limit(TokenLimit::Tokens));
+    }
+    if nesting(content, tokens.as_slice()) > MOST_NESTING {
+        return Err(TokenError::Limit(TokenLimit::Nesting));
+    }
+    Ok(tokens)
+}

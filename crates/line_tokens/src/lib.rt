@@ -1,0 +1,19 @@
+//! The lines of a text, and the tokens of a line: names, numbers and symbols, the longest possible from left to right,
+//! with the faults and limits of a line that its tokens show.
+#![tactic(auto)]
+
+mod check;
+mod error;
+mod line;
+mod place;
+mod scan;
+mod token;
+mod word;
+
+// #[cfg(test)]
+// mod tests;
+
+pub use check::line_tokens;
+pub use error::{TokenError, TokenLimit};
+pub use line::{content, next_line};
+pub use token::{Token, Word, is_spelled};

@@ -1,0 +1,9 @@
+pub mod Orders
+pub mod Nodes
+pub mod Rings
+pub mod Growing
+pub mod Naming
+pub mod Extending
+pub mod Paths
+pub mod Following
+pub mod Walking

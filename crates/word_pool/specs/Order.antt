@@ -1,0 +1,27 @@
+-- The lexicographic order of words, and the words at which a pool ends.
+use Rattle.std.specs.Prelude.{◌≡◌, ℕ, ◌<◌, ◌⊎◌, List, [], ◌∷◌, length, Contains, All, AllPairs}
+use Rattle.word_pool.specs.Words.{word, IsProperPrefix}
+
+-- `u` stands before `w` in lexicographic order, where a word stands before all that it is a proper prefix of
+abbrev pub IsBelow : List ℕ → List ℕ → Type 0
+IsBelow u [] = ⊥
+IsBelow [] (b ∷ w) = Unit {0}
+IsBelow (a ∷ u) (b ∷ w) = (a < b) ⊎ ((a ≡ b) × IsBelow u w)
+
+-- the word `i` is a proper prefix of no word
+pub record IsEnd (ws : List (List ℕ)) (i : ℕ) : Type 0 where
+  pub inside : i < length ws
+  pub longest : (k : ℕ) → k < length ws → ¬ IsProperPrefix (word ws i) (word ws k)
+
+-- the ids of exactly the words that are a proper prefix of no word, in ascending lexicographic order
+pub record AreEnds (ws : List (List ℕ)) (ids : List ℕ) : Type 0 where
+  pub ends : All (IsEnd ws) ids
+  pub each : (i : ℕ) → IsEnd ws i → Contains ids i
+  pub ascending : AllPairs (λ i j. IsBelow (word ws i) (word ws j)) ids
+
+-- `next` is the word after the word `at` in lexicographic order, or 0 where that is the last
+pub record IsNext (ws : List (List ℕ)) (at next : ℕ) : Type 0 where
+  pub inside : next < length ws
+  pub above : 0 < next → IsBelow (word ws at) (word ws next)
+  pub least : (k : ℕ) → k < length ws → IsBelow (word ws at) (word ws k) →
+    (0 < next) × ((k ≡ next) ⊎ IsBelow (word ws next) (word ws k))

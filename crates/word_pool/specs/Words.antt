@@ -1,0 +1,34 @@
+-- The words of a pool, as contracts see them. A letter is a number, a word is a list of letters, and the
+-- id of a word is its place in the list of words.
+use Rattle.std.specs.Prelude.{◌≡◌, ℕ, ◌+◌, ◌<◌, ◌⊎◌, List, [], ◌∷◌, ◌++◌, length, slice_get, slice_index_or, Contains, Some}
+
+-- what contracts see of a pool: its words by id, and how many more are sure to find room
+pub record Words : Type 0 where
+  pub words : List (List ℕ)
+  pub spare : ℕ
+
+-- the word with an id, and the empty word past the end
+abbrev pub word : List (List ℕ) → ℕ → List ℕ
+word ws i = slice_index_or ws i []
+
+-- `w` begins with `u` and goes on with a letter `a`
+abbrev pub IsProperPrefix : List ℕ → List ℕ → Type 0
+IsProperPrefix u w = (a : ℕ) × ((v : List ℕ) × (w ≡ u ++ a ∷ v))
+
+-- the word `i` is a word with a lower id and one letter more
+pub record IsExtension (ws : List (List ℕ)) (i : ℕ) : Type 0 where
+  pub shorter : ℕ
+  pub last : ℕ
+  pub lower : shorter < i
+  pub extends : word ws i ≡ word ws shorter ++ last ∷ []
+
+-- the words of a pool: the empty word is the first, no word has two ids, and the longest proper prefix of
+-- each other word has a lower id
+pub record ArePooled (ws : List (List ℕ)) : Type 0 where
+  pub empty : slice_get ws 0 ≡ Some []
+  pub different : (i j : ℕ) → i < length ws → j < length ws → word ws i ≡ word ws j → i ≡ j
+  pub prefixed : (i : ℕ) → 0 < i → i < length ws → IsExtension ws i
+
+-- a word enters a list of words: nothing changes where it is there, else it comes last
+abbrev pub Enters : List (List ℕ) → List ℕ → List (List ℕ) → Type 0
+Enters old w new = (Contains old w × (new ≡ old)) ⊎ (¬ Contains old w × (new ≡ old ++ w ∷ []))
