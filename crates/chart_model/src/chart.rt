@@ -1,10 +1,9 @@
 ghost use Rattle.chart_model.specs.Chart.{IsChart};
 
-use lin_form::{Comparison, Reply, Signature};
-use sqlite_items::Items;
-
 use crate::state::{Memory, State};
 use crate::transition::Transition;
+use lin_form::{Comparison, Reply, Signature};
+use sqlite_items::Items;
 
 /// A deterministic state chart. Transitions stand in written order.
 #[derive(Drop)]

@@ -5,10 +5,9 @@ mod action;
 mod chart;
 mod guard;
 mod state;
+#[cfg(test)]
+mod tests;
 mod transition;
-
-// #[cfg(test)]
-// mod tests;
 
 pub use action::{Action, Place};
 pub use chart::Chart;

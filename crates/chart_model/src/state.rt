@@ -1,7 +1,6 @@
+use crate::action::Action;
 use lin_form::Name;
 use sqlite_items::Items;
-
-use crate::action::Action;
 
 /// A number that a chart keeps, within its range from `lo` to `hi`.
 #[derive(Clone, Copy, PartialEq, Eq, Debug)]

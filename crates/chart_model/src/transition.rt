@@ -1,7 +1,6 @@
-use sqlite_items::Items;
-
 use crate::action::Action;
 use crate::guard::Guard;
+use sqlite_items::Items;
 
 /// A transition from a state, taken from it and from all states inside it. States are named by their numbers.
 #[derive(Drop)]

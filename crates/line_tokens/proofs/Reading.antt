@@ -1,17 +1,16 @@
-use Rattle.std.proofs.Common.{◌≡◌, ℕ, zero, suc, ◌+◌, ◌-◌, ◌<◌, ◌≤◌, Bool, true, false, ◌||◌, List, [], ◌∷◌, ◌++◌, length, take, drop, map, get_or, codes, Option, Some, None, refl, sym, ◌∙◌, ap, subst, arith}
+use Rattle.std.proofs.Common.{◌≡◌, ℕ, zero, suc, ◌+◌, ◌-◌, ◌<◌, ◌≤◌, Bool, false, ◌||◌, List, [], ◌∷◌, ◌++◌, length, take, drop, map, get_or, codes, Some, None, refl, sym, ◌∙◌, ap, subst, arith}
 use Rattle.std.proofs.lemmas.List.{drop_more, length-drop, take_more, map-append}
 use Rattle.std.proofs.lemmas.List.Elements.{All-nil, All-cons}
 use Rattle.std.proofs.Math.ListN.{drop_of_length-le}
 use Rattle.line_tokens.specs.declared.place.Place.{Place}
 use Rattle.line_tokens.specs.declared.token.Token.{Token}
 use Rattle.line_tokens.specs.declared.error.TokenLimit.{TokenLimit}
-use Rattle.line_tokens.specs.Tokens.{HasPlaces, IsLongest, IsPlace, IsInside, run, token_at}
+use Rattle.line_tokens.specs.Tokens.{HasPlaces, IsLongest, IsPlace, IsInside, token_at}
 use Rattle.std.specs.Prelude.{All}
 use Rattle.line_tokens.specs.declared.error.TokenError.{TokenError}
 use Rattle.line_tokens.specs.declared.error.TokenError.TheVariants.{Byte, Limit, Memory}
-use Rattle.line_tokens.specs.Tokens.{IsTokenized}
 use Rattle.line_tokens.specs.Lines.{content_of}
-use Rattle.line_tokens.specs.Limits.{or_else, first_limit, limit_of, token_limit, is_word, is_nesting, IsLimited, IsRead, IsRefused}
+use Rattle.line_tokens.specs.Limits.{first_limit, token_limit, is_word, IsLimited, IsRefused}
 
 place_of_token : (line : List ℕ) (q : Place) → q.from < q.to → IsLongest (drop q.from line) (q.to - q.from) → IsPlace line q
 place_of_token line q some t =
@@ -42,9 +41,9 @@ read_limited line places i d after tokens l r less e = r.limits ∙ ap (λ ps. f
 
 pub read_more : (line : List ℕ) (places : List Place) (i : ℕ) (d : Place) (after : Bool) (tokens : List Token) → IsReadTo line places i after tokens → i < length places → token_limit after (token_at line (get_or places i d)) ≡ None → IsReadTo line places (i + 1) (after || is_word line (codes "gives") (token_at line (get_or places i d))) (tokens ++ token_at line (get_or places i d) ∷ [])
 read_more line places i d after tokens r less e = record {
-    items = ap (λ ts. ts ++ token_at line (get_or places i d) ∷ []) r.items ∙ sym (ap (map (token_at line)) (take_more places i d less) ∙ map-append (token_at line) (take i places) (get_or places i d ∷ []));
-    limits = r.limits ∙ ap (λ ps. first_limit line after (map (token_at line) ps)) (drop_more places i d less) ∙ first_limit-none line after (token_at line (get_or places i d)) (map (token_at line) (drop (i + 1) places)) e
-  }
+  items = ap (λ ts. ts ++ token_at line (get_or places i d) ∷ []) r.items ∙ sym (ap (map (token_at line)) (take_more places i d less) ∙ map-append (token_at line) (take i places) (get_or places i d ∷ []));
+  limits = r.limits ∙ ap (λ ps. first_limit line after (map (token_at line) ps)) (drop_more places i d less) ∙ first_limit-none line after (token_at line (get_or places i d)) (map (token_at line) (drop (i + 1) places)) e;
+}
 
 pub read_end : (line : List ℕ) (places : List Place) (i : ℕ) (after : Bool) (tokens : List Token) → IsReadTo line places i after tokens → length places ≤ i → first_limit line false (map (token_at line) places) ≡ None
 read_end line places i after tokens r all = r.limits ∙ ap (λ ps. first_limit line after (map (token_at line) ps)) (drop_of_length-le places all)

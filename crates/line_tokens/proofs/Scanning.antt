@@ -1,9 +1,9 @@
-use Rattle.std.proofs.Common.{◌≡◌, ℕ, zero, suc, ◌+◌, ◌-◌, ◌<◌, ◌≤◌, Bool, true, false, not, ◌&&◌, ◌||◌, ◌==◌, List, [], ◌∷◌, ◌++◌, length, take, drop, cond, None, refl, sym, ◌∙◌, ap, subst, arith, add-one, append_assoc, ◌⊎◌, inl, inr}
+use Rattle.std.proofs.Common.{◌≡◌, ℕ, zero, suc, ◌+◌, ◌-◌, ◌<◌, ◌≤◌, Bool, true, false, not, List, [], ◌∷◌, ◌++◌, length, take, drop, cond, None, refl, sym, ◌∙◌, ap, subst, arith, append_assoc, ◌⊎◌, inl, inr}
 use Rattle.std.specs.List.{prefix_len, list_all}
 use Rattle.std.proofs.lemmas.List.{take_all, drop-drop, length-drop, append-nil}
 use Rattle.std.proofs.lemmas.Bool.{cases_lt, cases_eq}
 use Rattle.line_tokens.specs.declared.place.Place.{Place}
-use Rattle.line_tokens.specs.Spelling.{starts, is_blank, is_symbol_byte, is_before_equals, is_symbol, is_token}
+use Rattle.line_tokens.specs.Spelling.{starts, is_blank, is_symbol_byte, is_before_equals, is_token}
 use Rattle.lin_form.specs.Name.{starts_name}
 use Rattle.std.specs.Char.{is_ascii_digit}
 use Rattle.line_tokens.specs.Tokens.{IsLongest, FindsLongest, HasPlaces, IsFirst}
@@ -98,11 +98,11 @@ first_place line at k less t =
     let fits : k ≤ length (drop (at + n) line) = t.within in
     let left = length-drop (at + n) line in
     record {
-        after = omega arith;
-        some = omega arith;
-        within = omega (arith, left, fits);
-        blank = ap (λ j. list_all is_blank (take j (drop at line))) width ∙ run_passes is_blank (drop at line);
-        longest = let P : ℕ → Type 0 = λ j. IsLongest (drop (at + n) line) j in subst P (sym size) t
+      after = omega arith;
+      some = omega arith;
+      within = omega (arith, left, fits);
+      blank = ap (λ j. list_all is_blank (take j (drop at line))) width ∙ run_passes is_blank (drop at line);
+      longest = let P : ℕ → Type 0 = λ j. IsLongest (drop (at + n) line) j in subst P (sym size) t;
     }
 
 -- behind the first token stand the others
@@ -130,10 +130,10 @@ scanned_none line = record { within = omega arith; back = λ rest h. h; only = �
 
 pub scanned_more : (line : List ℕ) (at : ℕ) (found : List Place) (p : Place) → IsScanned line at found → IsFirst line at p → IsScanned line p.to (found ++ p ∷ [])
 scanned_more line at found p s f = record {
-    within = f.within;
-    back = λ rest h. let P : List Place → Type 0 = λ ps. HasPlaces line 0 ps in subst P (sym (append_assoc found (p ∷ []) rest)) (s.back (p ∷ rest) (f.after, f.some, f.blank, f.longest, h));
-    only = λ all h. let r = s.only all h in let o = first_only line at p f r.0 r.2 in (o.0, r.1 ∙ ap (λ ps. found ++ ps) o.1 ∙ sym (append_assoc found (p ∷ []) o.0), o.2)
-  }
+  within = f.within;
+  back = λ rest h. let P : List Place → Type 0 = λ ps. HasPlaces line 0 ps in subst P (sym (append_assoc found (p ∷ []) rest)) (s.back (p ∷ rest) (f.after, f.some, f.blank, f.longest, h));
+  only = λ all h. let r = s.only all h in let o = first_only line at p f r.0 r.2 in (o.0, r.1 ∙ ap (λ ps. found ++ ps) o.1 ∙ sym (append_assoc found (p ∷ []) o.0), o.2);
+}
 
 pub scanned_end : (line : List ℕ) (at : ℕ) (found : List Place) → IsScanned line at found → list_all is_blank (drop at line) ≡ true → HasPlaces line 0 found
 scanned_end line at found s end = let P : List Place → Type 0 = λ ps. HasPlaces line 0 ps in subst P (append-nil found) (s.back [] end)

@@ -1,10 +1,10 @@
-use Rattle.std.proofs.Common.{◌≡◌, ℕ, zero, suc, ◌+◌, ◌-◌, ◌<◌, ◌≤◌, Bool, true, false, not, ◌&&◌, ◌||◌, ◌==◌, nat_le, List, [], ◌∷◌, length, take, drop, cond, refl, sym, ◌∙◌, ap, subst, arith, add-one}
+use Rattle.std.proofs.Common.{◌≡◌, ℕ, zero, suc, ◌+◌, ◌<◌, ◌≤◌, Bool, true, false, ◌&&◌, ◌||◌, List, [], ◌∷◌, length, take, cond, refl, sym, ◌∙◌, arith}
 use Rattle.std.specs.List.{prefix_len, list_all}
 use Rattle.std.proofs.lemmas.List.Sums.{prefix_len-le-length}
-use Rattle.line_tokens.specs.Spelling.{starts, is_symbol_byte, is_before_equals, is_symbol, is_number, is_token}
-use Rattle.lin_form.specs.Name.{starts_name, continues_name, spells_name}
+use Rattle.line_tokens.specs.Spelling.{starts, is_symbol_byte, is_before_equals, is_symbol, is_token}
+use Rattle.lin_form.specs.Name.{starts_name, continues_name}
 use Rattle.std.specs.Char.{is_ascii_digit}
-use Rattle.line_tokens.specs.Tokens.{IsLongest, FindsLongest}
+use Rattle.line_tokens.specs.Tokens.{IsLongest}
 use Rattle.line_tokens.specs.Front.{starts_symbol, starts_joined}
 
 -- a letter is no digit and no byte of a symbol, and a digit is no byte of a symbol
@@ -69,13 +69,14 @@ true_false e = cc
 -- the longest token at the front is the whole run of a class, where such a run is a token exactly if all of it is of the class
 longest_run : (p : ℕ → Bool) (b : ℕ) (bs : List ℕ) → p b ≡ true → ((ys : List ℕ) → is_token (b ∷ ys) ≡ list_all p ys) → IsLongest (b ∷ bs) (prefix_len p (b ∷ bs))
 longest_run p b bs h at = let size : prefix_len p (b ∷ bs) ≡ suc (prefix_len p bs) = rw h (omega arith) in rw size record {
-    some = omega arith;
-    within = within;
-    token = at (take (prefix_len p bs) bs) ∙ run_passes p bs;
-    longest = longer
-  } where
+  some = omega arith;
+  within = within;
+  token = at (take (prefix_len p bs) bs) ∙ run_passes p bs;
+  longest = longer;
+} where
   within : suc (prefix_len p bs) ≤ suc (length bs)
   within = let le = prefix_len-le-length p bs in omega arith
+
   longer : (m : ℕ) → suc (prefix_len p bs) < m → m ≤ length (b ∷ bs) → is_token (take m (b ∷ bs)) ≡ true → ⊥
   longer zero more few is = omega arith
   longer (suc m) more few is = true_false (sym is ∙ at (take m bs) ∙ run_stops p bs m (omega arith) (omega arith))
@@ -120,11 +121,11 @@ pub joined_longest : (xs : List ℕ) → starts starts_name xs ≡ false → sta
 joined_longest [] g h j = absurd (true_false (sym j))
 joined_longest (b ∷ []) g h j = absurd (true_false (sym (and_second (is_before_equals b) false j)))
 joined_longest (b ∷ c ∷ bs) g h j = record {
-    some = omega arith;
-    within = omega arith;
-    token = symbol_at b (c ∷ []) g h ∙ j;
-    longest = longer
-  } where
+  some = omega arith;
+  within = omega arith;
+  token = symbol_at b (c ∷ []) g h ∙ j;
+  longest = longer;
+} where
   longer : (m : ℕ) → 2 < m → m ≤ length (b ∷ c ∷ bs) → is_token (take m (b ∷ c ∷ bs)) ≡ true → ⊥
   longer zero more few is = omega arith
   longer (suc m) more few is = no_token b (take m (c ∷ bs)) g h (long_symbol b (c ∷ bs) (suc m) more few) is
@@ -139,11 +140,11 @@ no_longer b bs g h j (suc (suc (suc m))) more few is = no_token b (take (suc (su
 pub symbol_longest : (xs : List ℕ) → starts starts_name xs ≡ false → starts is_ascii_digit xs ≡ false → starts_joined xs ≡ false → starts_symbol xs ≡ true → IsLongest xs 1
 symbol_longest [] g h j s = absurd (true_false (sym s))
 symbol_longest (b ∷ bs) g h j s = record {
-    some = omega arith;
-    within = omega arith;
-    token = symbol_at b [] g h ∙ s;
-    longest = no_longer b bs g h j
-  }
+  some = omega arith;
+  within = omega arith;
+  token = symbol_at b [] g h ∙ s;
+  longest = no_longer b bs g h j;
+}
 
 pub none_longest : (xs : List ℕ) → starts starts_name xs ≡ false → starts is_ascii_digit xs ≡ false → starts_joined xs ≡ false → starts_symbol xs ≡ false → (m : ℕ) → m ≤ length xs → is_token (take m xs) ≡ true → ⊥
 none_longest [] g h j s zero few is = true_false (sym is)

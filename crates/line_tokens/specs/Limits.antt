@@ -1,5 +1,5 @@
 -- The limits of a line that its tokens show, in their order, and what the tokens of a line are or why there are none.
-use Rattle.std.specs.Prelude.{◌≡◌, ℕ, ◌-◌, ℤ, pos, Bool, false, ◌||◌, if◌then◌else◌, ◌==◌, nat_lt, int_lt, List, [], ◌∷◌, length, count_by, codes, Option, Some, None}
+use Rattle.std.specs.Prelude.{◌≡◌, ℕ, ◌-◌, pos, Bool, false, ◌||◌, if◌then◌else◌, nat_lt, int_lt, List, [], ◌∷◌, length, count_by, codes, Option, Some, None}
 use Rattle.std.specs.Str.{bytes_eq}
 use Rattle.line_tokens.specs.declared.token.Word.{Word}
 use Rattle.line_tokens.specs.declared.token.Word.TheVariants.{Name, Number, Symbol}

@@ -1,5 +1,5 @@
 -- The lines of a text, and what of a line is no comment.
-use Rattle.std.specs.Prelude.{ℕ, ◌-◌, Bool, not, if◌then◌else◌, ◌==◌, List, [], ◌∷◌, length, take, slice_index}
+use Rattle.std.specs.Prelude.{ℕ, ◌-◌, not, if◌then◌else◌, ◌==◌, List, [], ◌∷◌, length, take, slice_index}
 use Rattle.std.specs.List.{prefix_len}
 
 -- puts a byte at the front of the first piece

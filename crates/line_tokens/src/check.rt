@@ -6,17 +6,18 @@ ghost use Rattle.std.specs.Char.{is_ascii_digit};
 ghost use Rattle.line_tokens.specs.Tokens.{HasPlaces, IsPlace, IsInside, run, token_at};
 ghost use Rattle.line_tokens.specs.Limits.{IsRead, IsRefused, IsLimited, first_limit, word_limit, token_limit, largest_literal, is_word, is_nesting};
 
-use std::alloc::Global;
-
 use crate::error::{TokenError, TokenLimit};
 use crate::line::content;
 use crate::place::Place;
 use crate::scan::places;
 use crate::token::{Token, Word, is_spelled};
 use crate::word::{begins_with_name, begins_with_number};
+use std::alloc::Global;
 
 const MOST_NAME_BYTES: usize = 32;
+
 const MOST_TOKENS: usize = 1_024;
+
 const MOST_NESTING: usize = 64;
 
 /// The value of a run of digits, or None where it is above `most`.
@@ -39,7 +40,11 @@ fn largest(after_gives: bool) -> u64
     ensures value { result ≡ largest_literal after_gives }
     ensures bound { result ≤ 1_000_000_000_000 }
 {
-    if after_gives { 1_000_000_000_000 } else { 1_000_000 }
+    if after_gives {
+        1_000_000_000_000
+    } else {
+        1_000_000
+    }
 }
 
 fn symbol(bytes: &[u8]) -> u8
@@ -48,7 +53,11 @@ fn symbol(bytes: &[u8]) -> u8
     requires no_number { starts is_ascii_digit bytes.now ≡ false }
     ensures { result ≡ symbol_number bytes.now }
 {
-    if bytes.len() > 1 { bytes[0] + 128 } else { bytes[0] }
+    if bytes.len() > 1 {
+        bytes[0] + 128
+    } else {
+        bytes[0]
+    }
 }
 
 /// The word that a token spells, or the limit that it passes.

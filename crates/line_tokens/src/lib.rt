@@ -7,11 +7,10 @@ mod error;
 mod line;
 mod place;
 mod scan;
+#[cfg(test)]
+mod tests;
 mod token;
 mod word;
-
-// #[cfg(test)]
-// mod tests;
 
 pub use check::line_tokens;
 pub use error::{TokenError, TokenLimit};

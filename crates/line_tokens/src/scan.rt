@@ -2,10 +2,9 @@ ghost use Rattle.std.specs.Prelude.{◌≡◌, ℕ, ◌+◌, ◌<◌, ◌≤◌,
 ghost use Rattle.line_tokens.specs.Tokens.{HasPlaces, IsNext};
 ghost use Rattle.line_tokens.specs.declared.place.Place.{Place};
 
-use std::alloc::{AllocError, Global};
-
 use crate::place::{Next, Place};
 use crate::word::{blanks, token_length};
+use std::alloc::{AllocError, Global};
 
 fn next_place(line: &[u8], at: usize) -> Next
     requires { at ≤ length line.now }

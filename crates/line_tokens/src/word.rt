@@ -45,7 +45,10 @@ fn may_precede_equals(byte: u8) -> bool
 fn leading_blanks(bytes: &[u8]) -> usize
     ensures { result ≡ prefix_len is_blank bytes.now }
 {
-    bytes.iter().take_while(|byte| is_blank_byte(**byte)).count()
+    bytes
+        .iter()
+        .take_while(|byte| is_blank_byte(**byte))
+        .count()
 }
 
 /// How many blanks stand at the front.
@@ -59,13 +62,19 @@ pub(crate) fn blanks(bytes: &[u8]) -> usize
 fn name_bytes(bytes: &[u8]) -> usize
     ensures { result ≡ prefix_len continues_name bytes.now }
 {
-    bytes.iter().take_while(|byte| continues_name(**byte)).count()
+    bytes
+        .iter()
+        .take_while(|byte| continues_name(**byte))
+        .count()
 }
 
 fn digits(bytes: &[u8]) -> usize
     ensures { result ≡ prefix_len is_ascii_digit bytes.now }
 {
-    bytes.iter().take_while(|byte| is_digit_byte(**byte)).count()
+    bytes
+        .iter()
+        .take_while(|byte| is_digit_byte(**byte))
+        .count()
 }
 
 fn is_joined_symbol(bytes: &[u8]) -> bool

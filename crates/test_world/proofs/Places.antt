@@ -1,5 +1,5 @@
 -- The place of a name among texts, and the text that is found there.
-use Rattle.std.proofs.Common.{◌≡◌, ◌∙◌, sym, ap, refl, ℕ, ◌+◌, ◌≤◌, zero-le, arith, Bool, true, false, cond, not, List, [], ◌∷◌, length, drop, map, Option, Some, None, is_some, option_map, find, position, slice_get, nat_lt, bytes_eq, String, Vec, string_bytes}
+use Rattle.std.proofs.Common.{◌≡◌, ◌∙◌, ap, refl, ℕ, ◌+◌, ◌≤◌, arith, Bool, true, false, cond, not, List, [], ◌∷◌, length, drop, Option, Some, None, is_some, option_map, find, position, slice_get, nat_lt, bytes_eq, String, Vec, string_bytes}
 use Rattle.std.specs.List.{position_or_len}
 use Rattle.std.specs.declared.alloc.Global.{Global}
 use Rattle.std.proofs.lemmas.Bool.{ltb-true, ltb-false}

@@ -1,5 +1,5 @@
 -- What a shelf tells, and how its calls change that.
-use Rattle.std.specs.Prelude.{◌≡◌, ℕ, List, [], ◌++◌, Option, Some, None, IsSome, option_map}
+use Rattle.std.specs.Prelude.{◌≡◌, ℕ, List, [], ◌++◌, Option, Some, None, IsSome}
 
 -- the text that is being read: its name, and the bytes of it that are left
 pub record Current : Type 0 where

@@ -42,7 +42,8 @@ pub fn put_all<K: Sink>(sink: &mut K, bytes: &[u8]) -> Result<(), Fault>
 {
     let mut done = 0;
     while done < bytes.len() {
-        done += sink.put(&bytes[done..])?;
+        let count = sink.put(&bytes[done..])?;
+        done += count;
     }
     Ok(())
 }

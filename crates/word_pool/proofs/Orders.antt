@@ -37,7 +37,7 @@ below_trans (x ∷ u) (y ∷ v) (z ∷ w) (inr h) (inl k) = inl (omega (arith, h
 below_trans (x ∷ u) (y ∷ v) (z ∷ w) (inr h) (inr k) = inr (h.0 ∙ k.0, below_trans u v w h.1 k.1)
 
 cases_below_at : (x : ℕ) (u : List ℕ) (y : ℕ) (w : List ℕ) → (x ≡ y) ⊎ ((x < y) ⊎ (y < x)) → (u ≡ w) ⊎ (IsBelow u w ⊎ IsBelow w u) →
-  (x ∷ u ≡ y ∷ w) ⊎ (IsBelow (x ∷ u) (y ∷ w) ⊎ IsBelow (y ∷ w) (x ∷ u))
+    (x ∷ u ≡ y ∷ w) ⊎ (IsBelow (x ∷ u) (y ∷ w) ⊎ IsBelow (y ∷ w) (x ∷ u))
 cases_below_at x u y w (inl e) (inl h) = inl cc
 cases_below_at x u y w (inl e) (inr (inl h)) = inr (inl (inr (e, h)))
 cases_below_at x u y w (inl e) (inr (inr h)) = inr (inr (inr (sym e, h)))

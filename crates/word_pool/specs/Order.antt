@@ -18,10 +18,3 @@ pub record AreEnds (ws : List (List ℕ)) (ids : List ℕ) : Type 0 where
   pub ends : All (IsEnd ws) ids
   pub each : (i : ℕ) → IsEnd ws i → Contains ids i
   pub ascending : AllPairs (λ i j. IsBelow (word ws i) (word ws j)) ids
-
--- `next` is the word after the word `at` in lexicographic order, or 0 where that is the last
-pub record IsNext (ws : List (List ℕ)) (at next : ℕ) : Type 0 where
-  pub inside : next < length ws
-  pub above : 0 < next → IsBelow (word ws at) (word ws next)
-  pub least : (k : ℕ) → k < length ws → IsBelow (word ws at) (word ws k) →
-    (0 < next) × ((k ≡ next) ⊎ IsBelow (word ws next) (word ws k))

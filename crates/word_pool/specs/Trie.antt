@@ -1,7 +1,8 @@
 -- How a vector of nodes stands for a list of words. Contracts of the pool name none of this.
-use Rattle.std.specs.Prelude.{◌≡◌, ℕ, ◌+◌, ◌<◌, ◌≤◌, ◌⊎◌, ◌==◌, if◌then◌else◌, List, [], ◌∷◌, ◌++◌, length, fold, slice_index_or}
+use Rattle.std.specs.Prelude.{◌≡◌, ℕ, ◌<◌, ◌≤◌, ◌⊎◌, ◌==◌, if◌then◌else◌, List, [], ◌∷◌, ◌++◌, length, fold, slice_index_or}
 use Rattle.word_pool.specs.declared.trie.Node.{Node}
 use Rattle.word_pool.specs.Words.{word}
+use Rattle.word_pool.specs.Order.{IsBelow}
 
 -- what stands past the end of the nodes
 abbrev pub no_node : Node
@@ -37,7 +38,7 @@ pub record IsLinked (ns : List Node) : Type 0 where
   pub some : (p j : ℕ) → IsChild ns p j → 0 < (node_at ns p).child
   pub next : (p k : ℕ) → IsChild ns p k → IsChild ns p (node_at ns k).sibling
   pub ring : (p k j : ℕ) → IsChild ns p k → IsChild ns p j →
-    Steps (node_at ns k).letter (node_at ns (node_at ns k).sibling).letter (node_at ns j).letter
+      Steps (node_at ns k).letter (node_at ns (node_at ns k).sibling).letter (node_at ns j).letter
 
 -- the nodes form the trie of the words `ws`
 pub record IsTrie (ns : List Node) (ws : List (List ℕ)) : Type 0 where
@@ -61,7 +62,7 @@ pub record IsPlace (ns : List Node) (p a place : ℕ) : Type 0 where
   pub none : place ≡ 0 → (node_at ns p).child ≡ 0
   pub child : 0 < place → IsChild ns p place
   pub between : 0 < place →
-    ((node_at ns place).letter ≡ a) ⊎ IsBetween (node_at ns place).letter a (node_at ns (node_at ns place).sibling).letter
+      ((node_at ns place).letter ≡ a) ⊎ IsBetween (node_at ns place).letter a (node_at ns (node_at ns place).sibling).letter
 
 -- the node `n` became a child of its parent, in the ring after `place`, or alone where that is 0
 pub record Links (old new : List Node) (place n : ℕ) : Type 0 where
@@ -75,3 +76,10 @@ pub record Links (old new : List Node) (place n : ℕ) : Type 0 where
   pub sibling_before : 0 < place → (node_at new place).sibling ≡ n
   pub sibling_alone : place ≡ 0 → (node_at new n).sibling ≡ (node_at old n).sibling
   pub sibling_other : (j : ℕ) → ¬ (j ≡ n) → ¬ (j ≡ place) → (node_at new j).sibling ≡ (node_at old j).sibling
+
+-- `next` is the word after the word `at` in lexicographic order, or 0 where that is the last
+pub record IsNext (ws : List (List ℕ)) (at next : ℕ) : Type 0 where
+  pub inside : next < length ws
+  pub above : 0 < next → IsBelow (word ws at) (word ws next)
+  pub least : (k : ℕ) → k < length ws → IsBelow (word ws at) (word ws k) →
+      (0 < next) × ((k ≡ next) ⊎ IsBelow (word ws next) (word ws k))

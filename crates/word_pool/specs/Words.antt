@@ -1,6 +1,6 @@
 -- The words of a pool, as contracts see them. A letter is a number, a word is a list of letters, and the
 -- id of a word is its place in the list of words.
-use Rattle.std.specs.Prelude.{◌≡◌, ℕ, ◌+◌, ◌<◌, ◌⊎◌, List, [], ◌∷◌, ◌++◌, length, slice_get, slice_index_or, Contains, Some}
+use Rattle.std.specs.Prelude.{◌≡◌, ℕ, ◌<◌, ◌⊎◌, List, [], ◌∷◌, ◌++◌, length, slice_get, slice_index_or, Contains, Some}
 
 -- what contracts see of a pool: its words by id, and how many more are sure to find room
 pub record Words : Type 0 where
@@ -10,6 +10,10 @@ pub record Words : Type 0 where
 -- the word with an id, and the empty word past the end
 abbrev pub word : List (List ℕ) → ℕ → List ℕ
 word ws i = slice_index_or ws i []
+
+-- the word with an id, followed by a letter
+abbrev pub extension_of : List (List ℕ) → ℕ → ℕ → List ℕ
+extension_of ws i a = word ws i ++ a ∷ []
 
 -- `w` begins with `u` and goes on with a letter `a`
 abbrev pub IsProperPrefix : List ℕ → List ℕ → Type 0
@@ -28,6 +32,10 @@ pub record ArePooled (ws : List (List ℕ)) : Type 0 where
   pub empty : slice_get ws 0 ≡ Some []
   pub different : (i j : ℕ) → i < length ws → j < length ws → word ws i ≡ word ws j → i ≡ j
   pub prefixed : (i : ℕ) → 0 < i → i < length ws → IsExtension ws i
+
+-- every word of `old` has the same id in `new`
+abbrev pub Keeps : List (List ℕ) → List (List ℕ) → Type 0
+Keeps old new = (i : ℕ) (w : List ℕ) → slice_get old i ≡ Some w → slice_get new i ≡ Some w
 
 -- a word enters a list of words: nothing changes where it is there, else it comes last
 abbrev pub Enters : List (List ℕ) → List ℕ → List (List ℕ) → Type 0

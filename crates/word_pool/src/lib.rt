@@ -2,14 +2,13 @@
 #![tactic(auto)]
 
 ghost use Rattle.std.specs.Prelude.{◌≡◌, ℕ, ◌+◌, ◌-◌, ◌<◌, ◌≤◌, [], ◌∷◌, ◌++◌, length, take, drop, slice_get, Contains, Some, IsOk, IfOk, OnOk, OnErr};
-ghost use Rattle.word_pool.specs.Words.{word, ArePooled, Enters, IsProperPrefix};
+ghost use Rattle.word_pool.specs.Words.{word, extension_of, ArePooled, Enters, IsProperPrefix, Keeps};
 ghost use Rattle.word_pool.specs.Order.{AreEnds};
 
 mod trie;
 
 use std::alloc::{AllocError, Global};
 use std::marker::Model;
-
 use trie::{Node, climb, is_here, link, next_of, place_of};
 
 #[cfg(test)]
@@ -71,7 +70,8 @@ impl Pool {
 
     /// The empty word.
     pub fn root(&self) -> WordId
-        ensures { slice_get self.now.words result ≡ Some [] }
+        ensures empty { slice_get self.now.words result ≡ Some [] }
+        ensures first { result ≡ 0 }
     {
         let _nodes = &self.nodes;
         WordId { number: 0 }
@@ -82,14 +82,15 @@ impl Pool {
     /// It takes memory only where no word is spare.
     pub fn extend(&mut self, id: WordId, letter: u16) -> Result<WordId, AllocError>
         requires id { id < length self.old.words }
-        requires few { length self.old.words < 4294967295 }
-        ensures word { IfOk result (λ extension. slice_get self.new.words extension ≡ Some (word self.old.words id ++ letter ∷ [])) }
-        ensures enters { OnOk result (Enters self.old.words (word self.old.words id ++ letter ∷ []) self.new.words) }
+        requires few { length self.old.words < u32.MAX }
+        ensures word { IfOk result (λ i. slice_get self.new.words i ≡ Some (extension_of self.old.words id letter)) }
+        ensures enters { OnOk result (Enters self.old.words (extension_of self.old.words id letter) self.new.words) }
         ensures err { OnErr result (self.new.words ≡ self.old.words) }
+        ensures keeps { Keeps self.old.words self.new.words }
         ensures pooled { ArePooled self.new.words }
 
         // A word that is there takes nothing, and a new one takes at most one spare place.
-        ensures there { Contains self.old.words (word self.old.words id ++ letter ∷ []) → IsOk result × (self.new ≡ self.old) }
+        ensures there { Contains self.old.words (extension_of self.old.words id letter) → IsOk result × (self.new ≡ self.old) }
         ensures spare { self.old.spare ≤ self.new.spare + 1 }
         ensures succeeds { 0 < self.old.spare → IsOk result }
     {
@@ -136,15 +137,16 @@ impl Pool {
         requires id { id < length self.now.words }
         requires room { length (word self.now.words id) ≤ length into.old }
         ensures count { result ≡ length (word self.now.words id) }
-        ensures letters { into.new ≡ word self.now.words id ++ drop (length (word self.now.words id)) into.old }
+        ensures letters { let w = word self.now.words id in into.new ≡ w ++ drop (length w) into.old }
     {
         let mut at = id.number;
         let count = self.nodes[at as usize].depth as usize;
         let mut place = count;
         while place > 0 {
             place -= 1;
-            into[place] = self.nodes[at as usize].letter;
-            at = self.nodes[at as usize].parent;
+            let node = self.nodes[at as usize];
+            into[place] = node.letter;
+            at = node.parent;
         }
         count
     }
@@ -171,7 +173,7 @@ impl Pool {
     pub fn words(&self) -> usize
         ensures count { result ≡ length self.now.words }
         ensures pooled { ArePooled self.now.words }
-        ensures few { result ≤ 4294967295 }
+        ensures few { result ≤ u32.MAX }
     {
         self.nodes.len()
     }
@@ -181,7 +183,10 @@ impl Pool {
         requires { id < length self.now.words }
         ensures number { result ≡ id }
         ensures empty { word self.now.words 0 ≡ [] }
-        ensures prefix_lower { (k : ℕ) → k < length self.now.words → IsProperPrefix (word self.now.words k) (word self.now.words id) → k < result }
+
+        // A proper prefix of a word has a lower number than the word.
+        ensures prefix_lower { (k : ℕ) → k < length self.now.words →
+            IsProperPrefix (word self.now.words k) (word self.now.words id) → k < result }
     {
         let _nodes = &self.nodes;
         id.number as usize
@@ -193,14 +198,16 @@ impl Pool {
         ensures { result ≡ number }
     {
         let _nodes = &self.nodes;
-        WordId { number: number as u32 }
+        WordId {
+            number: number as u32,
+        }
     }
 
     /// The last letter of a word that is not empty.
     pub fn last(&self, id: WordId) -> u16
         requires id { id < length self.now.words }
         requires some { 0 < length (word self.now.words id) }
-        ensures { word self.now.words id ≡ take (length (word self.now.words id) - 1) (word self.now.words id) ++ result ∷ [] }
+        ensures { let w = word self.now.words id in w ≡ take (length w - 1) w ++ result ∷ [] }
     {
         self.nodes[id.number as usize].letter
     }

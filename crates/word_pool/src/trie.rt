@@ -1,8 +1,7 @@
-//! The nodes of a pool, and the walks over them.
+//! The nodes of a pool, and the walks over them. A node's number is its place in the vector.
 
 ghost use Rattle.std.specs.Prelude.{◌≡◌, ◌<◌, ◌≤◌, ◌⊎◌, length, MatchBool};
-ghost use Rattle.word_pool.specs.Order.{IsNext};
-ghost use Rattle.word_pool.specs.Trie.{node_at, words_of, IsChild, IsLinked, IsTrie, IsPlace, Links};
+ghost use Rattle.word_pool.specs.Trie.{node_at, words_of, IsChild, IsLinked, IsTrie, IsPlace, IsNext, Links};
 
 /// One word of a pool: its longest proper prefix and its last letter.
 ///
@@ -31,8 +30,8 @@ fn goes_on(nodes: &[Node], at: u32, letter: u16) -> bool
     ensures { let here = node_at nodes.now at in
         let next = node_at nodes.now here.sibling in
         MatchBool result
-            ((here.letter < next.letter) × (next.letter ≤ letter))
-            ((next.letter ≤ here.letter) ⊎ ((letter < next.letter) × (next.letter ≤ u16.MAX))) }
+        ((here.letter < next.letter) × (next.letter ≤ letter))
+        ((next.letter ≤ here.letter) ⊎ ((letter < next.letter) × (next.letter ≤ u16.MAX))) }
 {
     let here = nodes[at as usize];
     let next = nodes[here.sibling as usize];
@@ -81,7 +80,8 @@ pub fn place_of(nodes: &[Node], parent: u32, letter: u16) -> u32
 /// Whether the child at a place has the letter.
 pub fn is_here(nodes: &[Node], place: u32, letter: u16) -> bool
     requires { place < length nodes.now }
-    ensures { MatchBool result ((0 < place) × ((node_at nodes.now place).letter ≡ letter)) (0 < place → ¬ ((node_at nodes.now place).letter ≡ letter)) }
+    ensures { let here = node_at nodes.now place in
+        MatchBool result ((0 < place) × (here.letter ≡ letter)) (0 < place → ¬ (here.letter ≡ letter)) }
 {
     place > 0 && nodes[place as usize].letter == letter
 }

@@ -1,6 +1,6 @@
-use Rattle.std.proofs.Common.{◌≡◌, ◌+◌, ◌<◌, ◌≤◌, ℕ, length, sym, subst}
+use Rattle.std.proofs.Common.{◌+◌, ◌<◌, ◌≤◌, ℕ, length, subst}
 use Rattle.std.proofs.lemmas.List.{take_rest}
-use Rattle.line_tokens.proofs.LineLemmas.{lines_of-feed, lines_of-end, before_feed}
+use Rattle.line_tokens.proofs.LineLemmas.{lines_of-feed, lines_of-end}
 use Rattle.line_tokens.proofs.line.next_line.Goals as goal
 
 pub returns-then-end-text-clause-line : goal.returns-then-end-text-clause-line

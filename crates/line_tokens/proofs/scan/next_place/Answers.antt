@@ -1,4 +1,4 @@
-use Rattle.std.proofs.Common.{◌≡◌, ◌+◌, ◌-◌, ◌<◌, ◌≤◌, ℕ, List, length, take, drop, Some, None, sym, ◌∙◌, ap, subst}
+use Rattle.std.proofs.Common.{◌≡◌, ◌+◌, ◌-◌, ◌<◌, ◌≤◌, ℕ, List, length, take, drop, None, sym, ◌∙◌, ap, subst}
 use Rattle.std.proofs.lemmas.List.{take_rest}
 use Rattle.std.specs.List.{prefix_len}
 use Rattle.line_tokens.specs.declared.place.Place.{Place}

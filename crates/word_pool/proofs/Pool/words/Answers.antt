@@ -1,4 +1,4 @@
-use Rattle.std.proofs.Common.{List, ℕ, subst, ap}
+use Rattle.std.proofs.Common.{subst}
 use Rattle.word_pool.specs.Words.{Words, ArePooled}
 use Rattle.word_pool.specs.Trie.{words_of}
 use Rattle.word_pool.proofs.Nodes.{pooled}

@@ -14,8 +14,8 @@ climb-requires-2-clause-inside c = (c.requires.linked.next _ _ c.climb-last.ensu
 
 pub returns : goal.returns
 returns c =
-  let ns = c.args.nodes.now in
-  let named : IsChild ns c.args.parent (node_at ns c.args.parent).child = c.requires.linked.named c.args.parent (omega (arith, c.if-child-eq0.false)) in
-  let first = c.requires.linked.next _ _ c.climb-last.ensures.child in
-  place_up ns c.args.parent c.args.letter c.climb-2.result (child_of ns _ c.args.parent c.climb-2.result c.climb-2.ensures.child (first.parent ∙ named.parent))
+    let ns = c.args.nodes.now in
+    let named : IsChild ns c.args.parent (node_at ns c.args.parent).child = c.requires.linked.named c.args.parent (omega (arith, c.if-child-eq0.false)) in
+    let first = c.requires.linked.next _ _ c.climb-last.ensures.child in
+    place_up ns c.args.parent c.args.letter c.climb-2.result (child_of ns _ c.args.parent c.climb-2.result c.climb-2.ensures.child (first.parent ∙ named.parent))
     (c.climb-2.ensures.below c.if-letter-nodes.false) c.climb-2.ensures.stops

@@ -1,4 +1,4 @@
-use Rattle.std.proofs.Common.{rules, arith, None, Some}
+use Rattle.std.proofs.Common.{rules, None, Some}
 use Rattle.test_world.proofs.Places.{found}
 use Rattle.test_world.proofs.mem_shelf.MemShelfShelf.take_up.Goals as goal
 
