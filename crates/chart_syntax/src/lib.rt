@@ -1,13 +1,23 @@
-// A library with one function.
+//! Charts and words as texts: what a text reads as, by its lines and their tokens.
 #![tactic(auto)]
 
-ghost use Rattle.std.specs.Prelude.{◌≡◌};
-ghost use Rattle.chart_syntax.specs.Echo.{echo_of};
+mod chart;
+mod error;
+mod form;
+mod keyword;
+mod lexeme;
+mod line;
+mod names;
+mod reader;
+mod statement;
+mod table;
+mod take;
+#[cfg(test)]
+mod tests;
+mod text;
+mod word;
 
-// The `ensures` clause is the contract: what `echo` returns is `echo_of` of its argument, a definition
-// in `specs/Echo.antt`, which a caller's clause can cite too.
-pub fn echo(x: usize) -> usize
-    ensures { result ≡ echo_of x }
-{
-    x
-}
+pub use chart_model::{Action, Chart, Guard, Memory, Place, State, Transition};
+pub use error::{ChartError, Kind, Which};
+pub use text::read_chart;
+pub use word::read_word;

@@ -1,0 +1,9 @@
+pub mod Units
+pub mod Plain
+pub mod Fresh
+pub mod Effects
+pub mod Actions
+pub mod Lines
+pub mod Vectors
+pub mod Partial
+pub mod Whole
