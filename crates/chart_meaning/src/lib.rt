@@ -1,13 +1,19 @@
-// A library with one function.
+//! The meaning of a state chart: its starting configuration, and the configuration and the reply after each step.
 #![tactic(auto)]
 
-ghost use Rattle.std.specs.Prelude.{◌≡◌};
-ghost use Rattle.chart_meaning.specs.Echo.{echo_of};
+mod actions;
+mod config;
+mod firing;
+mod laws;
+mod moves;
+mod path;
+mod plan;
+mod rows;
+mod start;
+#[cfg(test)]
+mod tests;
+mod tree;
 
-// The `ensures` clause is the contract: what `echo` returns is `echo_of` of its argument, a definition
-// in `specs/Echo.antt`, which a caller's clause can cite too.
-pub fn echo(x: usize) -> usize
-    ensures { result ≡ echo_of x }
-{
-    x
-}
+pub use config::Config;
+pub use laws::ways_are_whole;
+pub use plan::{ChartPlan, Step};

@@ -8,6 +8,9 @@ use itoa::Buffer;
 use lin_form::Reply;
 use std::marker::Model;
 
+/// What ends a line.
+const LINE_FEED: &[u8] = b"\n";
+
 /// A line that is made in place: at most 200 bytes.
 #[derive(Drop)]
 pub struct Line {
@@ -99,7 +102,7 @@ impl Line {
         self.push_decimal(line);
         self.push(before);
         self.push(word);
-        self.push(b"\n");
+        self.push(LINE_FEED);
     }
 
     /// Makes the line of a reply: its numbers with one space between them, and a line feed.
@@ -112,6 +115,6 @@ impl Line {
             self.push_number(numbers[0]);
             self.push_more(&numbers[1..]);
         }
-        self.push(b"\n");
+        self.push(LINE_FEED);
     }
 }

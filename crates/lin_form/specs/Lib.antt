@@ -4,3 +4,6 @@ pub mod Name
 pub mod Range
 pub mod Signature
 pub mod Form
+pub mod Inequality
+pub mod Atom
+pub mod SameAtom

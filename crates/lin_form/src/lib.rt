@@ -2,24 +2,38 @@
 //! and linear forms over a chart's inputs and memories, which the comparisons of its guards test.
 #![tactic(auto)]
 
+mod atom;
+#[cfg(test)]
+mod atom_tests;
+mod atoms;
 mod bounds;
+mod divisor;
 mod form;
 mod input;
 mod inputs;
+mod literal;
 mod name;
 mod names;
+mod normal;
+mod normal_form;
 mod reply;
 mod signature;
 #[cfg(test)]
 mod tests;
+mod truth;
 mod vector;
 
+pub use atom::Atom;
+pub use atoms::Atoms;
 pub use bounds::Bounds;
 pub use form::{Comparison, Form, Relation, eval, holds};
 pub use input::Input;
 pub use inputs::Inputs;
+pub use literal::{Claim, Literal, Pair};
 pub use name::Name;
 pub use names::Names;
+pub use normal::{FormError, as_literals, normalise};
 pub use reply::Reply;
 pub use signature::Signature;
+pub use truth::atom_holds;
 pub use vector::Vector;

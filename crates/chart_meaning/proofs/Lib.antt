@@ -1,0 +1,10 @@
+pub mod Storing
+pub mod Climbing
+pub mod Acting
+pub mod Moving
+pub mod Leaving
+pub mod Enabling
+pub mod Taking
+pub mod Starting
+pub mod Listing
+pub mod SmallCharts

@@ -1,0 +1,5 @@
+use Rattle.chart_meaning.proofs.Listing.{IsScanning}
+use Rattle.chart_meaning.proofs.firing.firing.Given as goal
+
+abbrev pub invariant-loop-row : goal.invariant-loop-row
+invariant-loop-row l = IsScanning l.chart l.config.leaf l.input l.config.memory l.rows l.row-index
