@@ -1,5 +1,5 @@
 -- Lemmas on machines, for the crates above too: numbers stay in range, and equal answers have equal numbers.
-use Rattle.std.proofs.Common.{◌≡◌, ℕ, ℤ, ◌+◌, ◌*◌, ◌<◌, List, [], ◌∷◌, length, All, refl, ap, arith}
+use Rattle.std.proofs.Common.{◌≡◌, ℕ, ◌+◌, ◌*◌, ◌<◌, List, [], ◌∷◌, length, refl, arith}
 use Rattle.std.proofs.lemmas.Nat.{mul-add-lt}
 use Rattle.std.proofs.lemmas.List.Elements.{All-get_or, All-head, All-tail}
 use Rattle.fsm_core.specs.Machine.{Machine, IsMachine, IsWord, next, number, reply_at, state_after}

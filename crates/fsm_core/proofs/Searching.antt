@@ -1,5 +1,5 @@
 -- The search for the states that are reached from the start.
-use Rattle.std.proofs.Common.{◌≡◌, ℕ, ◌+◌, ◌<◌, ◌≤◌, ◌⊎◌, Bool, true, false, List, [], ◌∷◌, ◌++◌, length, get_or, set, refl, ap, sym, ◌∙◌, inl, inr, ◌↔◌, All, arith}
+use Rattle.std.proofs.Common.{◌≡◌, ℕ, ◌+◌, ◌<◌, ◌≤◌, Bool, true, false, List, [], ◌∷◌, ◌++◌, length, get_or, set, refl, ap, sym, ◌∙◌, inl, inr, ◌↔◌, All, arith}
 use Rattle.std.proofs.lemmas.Bool.{cases_eq, cases_lt}
 use Rattle.std.proofs.lemmas.List.{get_or_append_left, get_or_push, get_or-set_other, get_or-set_same, length_push, length-set}
 use Rattle.std.proofs.lemmas.List.Elements.{All-from_get_or, All-get_or, All-head, All-push, All-tail}
@@ -7,7 +7,7 @@ use Rattle.std.proofs.lemmas.List.Sums.{sum_by-set}
 use Rattle.fsm_core.specs.Machine.{Machine, IsMachine, IsWord, next, state_after}
 use Rattle.fsm_core.specs.Answers.{AllReached, IsReached}
 use Rattle.fsm_core.specs.Search.{IsFound, IsSearch, missing, unfound}
-use Rattle.fsm_core.proofs.Machines.{row_inside, state_inside}
+use Rattle.fsm_core.proofs.Machines.{row_inside}
 
 -- a word with one letter more
 pub state_after-push : (m : Machine) (s : ℕ) (word : List ℕ) (a : ℕ) → state_after m s (word ++ a ∷ []) ≡ next m (state_after m s word) a
@@ -30,8 +30,8 @@ each_pushed : (P : ℕ → Type 0) (xs : List ℕ) (x : ℕ) → ((i : ℕ) → 
 each_pushed P xs x before here i h = elim (cases_lt i (length xs)) as (λ _. P (get_or (xs ++ x ∷ []) i 0)) [
   | inl low ↦ rw (get_or_append_left xs (x ∷ []) 0 i low) (before i low)
   | inr high ↦
-    let e : i ≡ length xs = omega (arith, high, h, length_push xs x) in
-    rw (e, get_or_push xs x 0 (length xs) refl) here
+      let e : i ≡ length xs = omega (arith, high, h, length_push xs x) in
+      rw (e, get_or_push xs x 0 (length xs) refl) here
 ]
 
 found_kept : (found : List Bool) (t s : ℕ) → t < length found → IsFound found s → IsFound (set found t true) s
@@ -74,8 +74,8 @@ module _ (m : Machine) (sound : IsMachine m) (found : List Bool) (queue : List �
         queued = λ u hu f. elim (cases_eq u t) as (λ _. (i : ℕ) × ((i < length (queue ++ t ∷ [])) × (get_or (queue ++ t ∷ []) i 0 ≡ u))) [
           | inl e ↦ (length queue, (omega (arith, length_push queue t), get_or_push queue t 0 (length queue) refl ∙ sym e))
           | inr d ↦
-            let p = s.queued u hu (sym (get_or-set_other found t u true false d) ∙ f) in
-            (p.0, (omega (arith, p.1.0, length_push queue t), get_or_append_left queue (t ∷ []) 0 p.0 p.1.0 ∙ p.1.1))
+              let p = s.queued u hu (sym (get_or-set_other found t u true false d) ∙ f) in
+              (p.0, (omega (arith, p.1.0, length_push queue t), get_or_append_left queue (t ∷ []) 0 p.0 p.1.0 ∙ p.1.1))
         ];
         closed = λ i b hi hb h.
             let hi' : i < length queue = elim h as (λ _. i < length queue) [

@@ -86,3 +86,23 @@ fn rules_of_a_machine(rt: HostRuntime) -> Result<(), Fail> {
     assert!(rt; !Fsm::is_machine(8192, most_rows.as_slice(), &replies[..1]));
     Ok(())
 }
+
+#[test]
+fn states_that_are_reached(rt: HostRuntime) -> Result<(), Fail> {
+    let tables = [
+        (1, [(0, 0)].as_slice(), true),
+        (1, &[(1, 0), (0, 0)], true),
+        (1, &[(0, 0), (0, 0)], false),
+        (1, &[(2, 0), (1, 0), (2, 0)], false),
+        (1, &[(2, 0), (0, 0), (1, 0)], true),
+        (2, &[(0, 0), (2, 0), (1, 0), (1, 0), (0, 0), (1, 0)], true),
+        (2, &[(0, 0), (2, 0), (1, 0), (1, 0), (0, 0), (2, 0)], false),
+    ];
+    for (letters, rows, want) in tables {
+        let replies = vec![in rt.alloc(); Reply::from_slice(&[])]?;
+        assert!(rt; Fsm::is_machine(letters, rows, replies.as_slice()));
+        let fsm = Fsm::new(letters, Vec::from_slice(rt.alloc(), rows)?, replies);
+        assert_eq!(rt; fsm.all_reached(rt.alloc())?, want, "{rows:?}");
+    }
+    Ok(())
+}

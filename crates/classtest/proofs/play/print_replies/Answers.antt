@@ -12,11 +12,12 @@ returns-in-Err-clause-prefix g c = printed_part c.args.plan.now c.args.word.now 
 pub word-preserved : goal.word-preserved
 word-preserved g c =
     let before = c.word.invariant.1 in
-    let later = c.put_all.ensures.later in
-    (printed_more c.args.plan.now c.args.word.now c.word.vector-index c.vector-item.result c.word.config c.step-step.result.state c.step-step.result.reply _ _ _
-        c.word.invariant.0 c.word-test.true
-        (c.step-step.ensures.state ∙ ap (next_of c.args.plan.now c.word.config) c.vector-item.is)
-        (c.step-step.ensures.reply ∙ ap (reply_of c.args.plan.now c.word.config) c.vector-item.is)
-        c.step-step.ensures.configuration
-        (rw (c.bytes.ensures ∙ c.set_reply.ensures) at c.in-Ok.ensures.ok),
-    omega (arith, before, later))
+    let later = c.put_all.ensures.later in (
+      printed_more c.args.plan.now c.args.word.now c.word.vector-index c.vector-item.result c.word.config c.step-step.result.state c.step-step.result.reply _ _ _
+          c.word.invariant.0 c.word-test.true
+          (c.step-step.ensures.state ∙ ap (next_of c.args.plan.now c.word.config) c.vector-item.is)
+          (c.step-step.ensures.reply ∙ ap (reply_of c.args.plan.now c.word.config) c.vector-item.is)
+          c.step-step.ensures.configuration
+          (rw (c.bytes.ensures ∙ c.set_reply.ensures) at c.in-Ok.ensures.ok),
+      omega (arith, before, later),
+    )

@@ -1,4 +1,4 @@
-use Rattle.std.proofs.Common.{◌≡◌, ◌↔◌, ◌≤◌, true, length, All, subst, arith}
+use Rattle.std.proofs.Common.{◌≡◌, ◌↔◌, true, All, subst, arith}
 use Rattle.fsm_core.specs.Machine.{IsMachine}
 use Rattle.fsm_core.proofs.Searching.{found_where_reached}
 use Rattle.fsm_core.proofs.Fsm.all_reached.Goals as goal

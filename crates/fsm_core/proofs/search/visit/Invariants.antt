@@ -1,5 +1,3 @@
-use Rattle.std.proofs.Common.{◌≡◌, ◌+◌, length}
-use Rattle.fsm_core.specs.Search.{missing}
 use Rattle.fsm_core.proofs.Searching.{IsVisiting}
 use Rattle.fsm_core.proofs.search.visit.Given as goal
 
