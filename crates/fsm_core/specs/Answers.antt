@@ -20,6 +20,10 @@ AnswerAlike m s r t = (word : List ℕ) → IsWord m word → answer_from m s wo
 abbrev pub KeepAnswers : Machine → Machine → List ℕ → Type 0
 KeepAnswers m r image = (s i : ℕ) → slice_get image s ≡ Some i → AnswerAlike m s r i
 
+-- states that answer every word alike have one image
+abbrev pub JoinAlike : Machine → List ℕ → Type 0
+JoinAlike m image = (s t : ℕ) → s < m.states → t < m.states → AnswerAlike m s m t → slice_get image s ≡ slice_get image t
+
 -- some word that two states answer differently: a distinguishing word
 pub record AnswerDifferently (m : Machine) (s t : ℕ) : Type 0 where
   pub word : List ℕ

@@ -1,10 +1,11 @@
 -- The machine whose states are the blocks answers as the machine, and no two of its states answer alike.
-use Rattle.std.proofs.Common.{◌≡◌, ℕ, ◌*◌, ◌/◌, ◌%◌, ◌<◌, List, [], ◌∷◌, length, get_or, slice_get, Some, All, Contains, add-zero, refl, ap, sym, ◌∙◌, arith}
+use Rattle.std.proofs.Common.{◌≡◌, ℕ, ◌*◌, ◌/◌, ◌%◌, ◌<◌, List, [], ◌∷◌, length, get_or, slice_get, Some, All, Contains, add-zero, refl, ap, sym, ◌∙◌, inl, inr, arith}
+use Rattle.std.proofs.lemmas.Bool.{cases_eq}
 use Rattle.std.proofs.lemmas.List.Elements.{All-from_get_or, All-head, All-tail, Contains-get_or}
 use Rattle.std.proofs.lemmas.Nat.{div_below, div-add-mod', div-mul-add, mod_below}
 use Rattle.std.proofs.lemmas.Option.{get_or_from_slice_get, slice_get-get_or, slice_get_within}
 use Rattle.fsm_core.specs.Machine.{Machine, IsMachine, IsWord, machine_of, next, number, state_after}
-use Rattle.fsm_core.specs.Answers.{AllReached, IsReduced, KeepAnswers, numbers}
+use Rattle.fsm_core.specs.Answers.{AllReached, IsReduced, JoinAlike, KeepAnswers, numbers}
 use Rattle.fsm_core.proofs.Machines.{answers_from_numbers, numbers_from_answers, row_inside}
 use Rattle.reduction.specs.Blocks.{AreBlocks, AreStable}
 use Rattle.reduction.specs.Quotient.{AreRepresentatives, AreRowsOf}
@@ -13,6 +14,7 @@ use Rattle.reduction.proofs.Rounds.{block_upto}
 -- the states of r are the blocks of the states of m
 pub record IsReduction (m r : Machine) (image : List ℕ) : Type 0 where
   pub answers : KeepAnswers m r image
+  pub joined : JoinAlike m image
   pub reduced : IsReduced r
   pub reached : AllReached m → AllReached r
   pub start : slice_get image 0 ≡ Some 0
@@ -107,6 +109,14 @@ module _ (m : Machine) (sound : IsMachine m) (blocks reps : List ℕ) (b : AreBl
             sym (numbers_alike t d.word (rep_inside j hj') d.is_word)))));
       }
 
+  joins_alike : JoinAlike m blocks
+  joins_alike s t hs ht alike = elim (cases_eq (get_or blocks s 0) (get_or blocks t 0)) as (λ _. slice_get blocks s ≡ slice_get blocks t) [
+    | inl e ↦ slice_get-get_or blocks s 0 (omega (arith, hs, b.size)) ∙ (ap Some e ∙ sym (slice_get-get_or blocks t 0 (omega (arith, ht, b.size))))
+    | inr d ↦
+        let told = b.apart s t (omega (arith, hs, b.size)) (omega (arith, ht, b.size)) d in
+        absurd (told.differ (numbers_from_answers m sound s t told.word hs ht told.is_word (alike told.word told.is_word)))
+  ]
+
   all_reached : AllReached m → AllReached quotient
   all_reached reached i hi =
       let hi' : i < length reps = omega (arith, hi, states_are) in
@@ -133,6 +143,7 @@ module _ (m : Machine) (sound : IsMachine m) (blocks reps : List ℕ) (b : AreBl
   pub reduction : (r : Machine) → r ≡ quotient → IsReduction m r blocks
   reduction r e = rw (e) record {
     answers = keeps_answers;
+    joined = joins_alike;
     reduced = is_reduced;
     reached = all_reached;
     start = start_is;

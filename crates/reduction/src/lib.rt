@@ -3,7 +3,7 @@
 
 ghost use Rattle.std.specs.Prelude.{◌≡◌, ℕ, ◌<◌, length, All, Contains, IfOk, Some, slice_get};
 ghost use Rattle.fsm_core.specs.Machine.{IsMachine};
-ghost use Rattle.fsm_core.specs.Answers.{AllReached, IsReduced, KeepAnswers};
+ghost use Rattle.fsm_core.specs.Answers.{AllReached, IsReduced, JoinAlike, KeepAnswers};
 
 mod blocks;
 mod quotient;
@@ -29,9 +29,13 @@ pub struct Reduced {
 /// to one letter and the blocks that it leads to, until no block is split (Moore 1956).
 pub fn reduce(alloc: Global, fsm: &Fsm) -> Result<Reduced, AllocError>
     requires reached { AllReached fsm.now }
+
+    // A state and its image answer alike, and two states of the reduced machine answer some word differently.
     ensures answers { IfOk result (λ r. KeepAnswers fsm.now r.fsm r.image.items) }
+    ensures joined { IfOk result (λ r. JoinAlike fsm.now r.image.items) }
     ensures reduced { IfOk result (λ r. IsReduced r.fsm) }
     ensures reached { IfOk result (λ r. AllReached r.fsm) }
+
     ensures machine { IfOk result (λ r. IsMachine r.fsm) }
     ensures letters { IfOk result (λ r. r.fsm.letters ≡ fsm.now.letters) }
     ensures replies { IfOk result (λ r. r.fsm.replies ≡ fsm.now.replies) }

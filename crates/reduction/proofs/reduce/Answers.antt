@@ -32,6 +32,9 @@ reduction_is c =
 pub returns-clause-answers : goal.returns-clause-answers
 returns-clause-answers c = (reduction_is c).answers
 
+pub returns-clause-joined : goal.returns-clause-joined
+returns-clause-joined c = (reduction_is c).joined
+
 pub returns-clause-reduced : goal.returns-clause-reduced
 returns-clause-reduced c = (reduction_is c).reduced
 
