@@ -1,5 +1,5 @@
 -- What actions compute, and what they keep.
-use Rattle.std.proofs.Common.{◌≡◌, ℕ, zero, suc, ◌-◌, Bool, true, false, if◌then◌else◌, set, drop, replicate, Option, Some, subst, ◌+◌, ◌*◌, ◌<◌, ◌≤◌, List, [], ◌∷◌, ◌++◌, length, get_or, take, ℤ, pos, ◌+ℤ◌, ◌*ℤ◌, FitsSigned, w64, refl, ap, sym, ◌∙◌, arith}
+use Rattle.std.proofs.Common.{◌≡◌, ℕ, zero, suc, ◌-◌, Bool, true, false, if◌then◌else◌, set, drop, replicate, Some, subst, ◌+◌, ◌*◌, ◌<◌, ◌≤◌, List, [], ◌∷◌, ◌++◌, length, get_or, take, ℤ, pos, ◌+ℤ◌, ◌*ℤ◌, FitsSigned, w64, refl, ap, sym, ◌∙◌, arith}
 use Rattle.std.specs.Prelude.{unsigned_abs, int_lt, nat_lt, slice_get}
 use Rattle.std.specs.List.{All, AllZip, AllByRecursion}
 use Rattle.std.proofs.lemmas.Int.{fits_signed_from_abs, unsigned_abs-mul, ints}
@@ -11,7 +11,7 @@ use Rattle.std.proofs.lemmas.Option.{same_Some, slice_get_within, get_or_from_sl
 use Rattle.std.proofs.Math.Nat.{mul-le-mul}
 use Rattle.lin_form.specs.declared.form.Form.{Form}
 use Rattle.lin_form.specs.Padded.{padded}
-use Rattle.lin_form.specs.Form.{IsModerate, sum_of_products, size_of}
+use Rattle.lin_form.specs.Form.{sum_of_products, size_of}
 use Rattle.lin_form.specs.Range.{AreWithin}
 use Rattle.chart_model.specs.declared.action.Action.{Action}
 use Rattle.chart_model.specs.declared.action.Place.TheVariants as place
@@ -22,7 +22,7 @@ use Rattle.chart_model.specs.Chart.{IsMemory, is_declared}
 use Rattle.chart_meaning.specs.Configuration.{Configuration}
 use Rattle.chart_meaning.specs.Actions.{sum_of, nearest, act, run}
 use Rattle.chart_meaning.specs.IsConfiguration.{AreValues, IsInMemory}
-use Rattle.lin_form.proofs.Products.{sum_of_products-more, sum_of_products-bound, unsigned_abs-add-le}
+use Rattle.lin_form.proofs.Products.{sum_of_products-more, sum_of_products-bound}
 
 -- the sum over the first i places
 pub record IsSumSoFar (coefficients numbers : List ℤ) (i : ℕ) (total : ℤ) : Type 0 where

@@ -1,6 +1,6 @@
 -- The walks out of a state and down from one.
 use Rattle.std.proofs.Common.{◌≡◌, ◌≢◌, ℕ, zero, suc, ◌+◌, ◌<◌, ◌≤◌, Bool, true, false, List, [], ◌∷◌, ◌++◌, length, get_or, drop, take_while, cond, not, Option, None, Some, ◌&&◌, ◌==◌, refl, ap, sym, subst, ◌∙◌, arith}
-use Rattle.std.specs.Prelude.{slice_get, option_and_then, position}
+use Rattle.std.specs.Prelude.{slice_get, option_and_then}
 use Rattle.std.specs.Option.{option_map_or}
 use Rattle.std.proofs.lemmas.Bool.{false≢true}
 use Rattle.std.proofs.lemmas.Bool.Decides.{Decides-eqb, nat_tests}
@@ -9,7 +9,7 @@ use Rattle.std.proofs.lemmas.List.Sums.{take_while-cons}
 use Rattle.std.proofs.lemmas.List.Quantifiers.{position-Some}
 use Rattle.std.proofs.lemmas.Option.{option_and_then_some, slice_get_within, slice_get-get_or, same_Some}
 use Rattle.chart_model.specs.declared.state.State.{State}
-use Rattle.chart_model.specs.States.{IsTree, parent_of, is_within_depth, is_child_of, is_start_child_of}
+use Rattle.chart_model.specs.States.{IsTree, parent_of, is_within_depth, is_start_child_of}
 use Rattle.chart_meaning.specs.Tree.{way_out, way_out_within, way_down, way_down_within, start_child}
 
 pub parent_below : (states : List State) → IsTree states → (s p : ℕ) → parent_of states s ≡ Some p → (p < s) × (s < length states)

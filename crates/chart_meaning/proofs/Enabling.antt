@@ -1,19 +1,13 @@
 -- Guards over a configuration's array of memories, and which transitions are enabled.
-use Rattle.std.proofs.Common.{◌≡◌, ℕ, ◌+◌, ◌-◌, ◌<◌, ◌≤◌, Bool, not, ◌&&◌, ◌||◌, List, ◌++◌, ◌∷◌, drop, cond, true, Option, None, Some, is_some, [], length, get_or, ℤ, pos, ◌+ℤ◌, refl, ap, sym, subst, ◌∙◌, arith}
-use Rattle.std.specs.Prelude.{find, slice_get, option_and_then, IfSome}
-use Rattle.std.specs.Option.{option_or}
+use Rattle.std.proofs.Common.{◌≡◌, ℕ, ◌+◌, ◌-◌, ◌<◌, not, ◌&&◌, ◌||◌, List, ◌++◌, length, ℤ, pos, ◌+ℤ◌, ap, subst, ◌∙◌, arith}
 use Rattle.std.specs.List.{All}
-use Rattle.std.proofs.lemmas.List.{get_or_append_left, get_or-append-add, length-append, at_drop_more}
-use Rattle.std.proofs.lemmas.Bool.{false≢true}
-use Rattle.std.proofs.lemmas.Option.{slice_get-get_or}
+use Rattle.std.proofs.lemmas.List.{get_or_append_left, get_or-append-add, length-append}
 use Rattle.lin_form.specs.declared.form.Comparison.{Comparison}
 use Rattle.lin_form.specs.Form.{relates, sum_of_products, truth_of}
 use Rattle.lin_form.specs.Padded.{padded}
 use Rattle.chart_model.specs.declared.guard.Guard.{Guard, Test, Not', And', Or'}
-use Rattle.chart_model.specs.Guard.{comparisons_of, truth_of_guard, IsReadable, IsReadableGuard}
+use Rattle.chart_model.specs.Guard.{comparisons_of, truth_of_guard, IsReadableGuard}
 use Rattle.chart_model.specs.Chart.{IsFormOver}
-use Rattle.chart_model.specs.declared.transition.Transition.{Transition}
-use Rattle.chart_meaning.specs.Step.{firing, is_enabled_in}
 use Rattle.chart_meaning.proofs.Acting.{sum_of_products-zeros_after}
 
 All-left : {X : Type 0} (P : X → Type 0) (xs ys : List X) → All P (xs ++ ys) → All P xs

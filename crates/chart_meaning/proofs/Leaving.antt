@@ -1,17 +1,16 @@
 -- Last children, and exits.
-use Rattle.std.proofs.Common.{◌≡◌, ℕ, zero, suc, ◌+◌, ◌<◌, ◌≤◌, Bool, true, false, cond, List, [], ◌∷◌, length, get_or, drop, set, Option, None, Some, is_some, ◌==◌, ◌&&◌, ◌⊎◌, inl, inr, ⊎_elim, if◌then◌else◌, refl, ap, sym, subst, ◌∙◌, arith}
+use Rattle.std.proofs.Common.{◌≡◌, ℕ, zero, suc, ◌+◌, ◌<◌, ◌≤◌, Bool, true, false, List, [], ◌∷◌, length, get_or, drop, set, Option, None, Some, is_some, ◌==◌, ◌&&◌, ◌⊎◌, inl, inr, ⊎_elim, if◌then◌else◌, refl, ap, sym, subst, ◌∙◌, arith}
 use Rattle.std.specs.Prelude.{slice_get, option_and_then}
 use Rattle.std.specs.Option.{option_map_or}
-use Rattle.std.specs.List.{All, list_any}
+use Rattle.std.specs.List.{All}
 use Rattle.std.proofs.lemmas.Bool.{false≢true}
-use Rattle.std.proofs.lemmas.Bool.Decides.{nat_tests, Decides-eqb}
+use Rattle.std.proofs.lemmas.Bool.Decides.{Decides-eqb}
 use Rattle.std.proofs.lemmas.List.{length-set, drop_more, drop_all}
 use Rattle.std.proofs.lemmas.List.Folds.{list_any_none}
 use Rattle.std.proofs.lemmas.Option.{same_Some, slice_get-get_or}
 use Rattle.chart_model.specs.declared.action.Action.{Action}
 use Rattle.chart_model.specs.declared.chart.Chart.{Chart}
 use Rattle.chart_model.specs.declared.state.State.{State}
-use Rattle.chart_model.specs.declared.transition.Transition.{Transition}
 use Rattle.chart_model.specs.Chart.{IsAction, IsState}
 use Rattle.chart_model.specs.States.{has_children, parent_of}
 use Rattle.chart_meaning.specs.Configuration.{Configuration}
@@ -20,7 +19,6 @@ use Rattle.chart_meaning.specs.Step.{enter, is_recall_of, is_remembering, rememb
 use Rattle.chart_meaning.specs.IsConfiguration.{AreLastChildren, AreValues, IsLastOf}
 use Rattle.chart_meaning.specs.Ways.{IsActiveIn, IsUpFrom}
 use Rattle.chart_meaning.proofs.Acting.{All_found}
-use Rattle.chart_meaning.proofs.Moving.{run-last}
 
 pub item_found : {X : Type 0} (xs seen : List X) (i : ℕ) (x : X) → i < length xs → seen ≡ xs → x ≡ get_or seen i x → slice_get xs i ≡ Some x
 item_found {X} xs seen i x h e is = slice_get-get_or xs i x h ∙ ap Some (sym (is ∙ ap (λ (ys : List X). get_or ys i x) e))

@@ -1,10 +1,9 @@
 -- The rows of a leaf, as they are listed and as they are read.
-use Rattle.std.proofs.Common.{◌≡◌, ℕ, zero, suc, ◌+◌, ◌<◌, ◌≤◌, Bool, true, false, cond, List, [], ◌∷◌, ◌++◌, length, get_or, drop, map, Option, None, Some, Vec, ◌==◌, ◌&&◌, ◌⊎◌, inl, inr, ⊎_elim, refl, ap, sym, subst, ◌∙◌, arith, ℤ}
+use Rattle.std.proofs.Common.{◌≡◌, ℕ, zero, suc, ◌+◌, ◌<◌, ◌≤◌, Bool, true, false, cond, List, [], ◌∷◌, ◌++◌, length, get_or, drop, Option, None, Some, Vec, ◌==◌, ◌&&◌, ◌⊎◌, inl, inr, ⊎_elim, refl, ap, sym, subst, ◌∙◌, arith, ℤ}
 use Rattle.std.specs.Prelude.{slice_get, find, filter}
 use Rattle.std.specs.Option.{option_or}
-use Rattle.std.specs.List.{AllZip, range_with_len}
+use Rattle.std.specs.List.{AllZip}
 use Rattle.std.specs.declared.alloc.Global.{Global}
-use Rattle.std.proofs.lemmas.Bool.{false≢true}
 use Rattle.std.proofs.lemmas.Bool.Decides.{nat_tests}
 use Rattle.std.proofs.lemmas.List.{append_assoc, append-nil, length_push, drop_more, drop_all}
 use Rattle.std.proofs.lemmas.List.Folds.{find-append}
@@ -15,7 +14,7 @@ use Rattle.chart_model.specs.declared.state.State.{State}
 use Rattle.chart_model.specs.declared.transition.Transition.{Transition}
 use Rattle.chart_model.specs.States.{has_children}
 use Rattle.chart_meaning.specs.declared.rows.Row.{Row}
-use Rattle.chart_meaning.specs.Step.{firing, is_enabled_in, is_guard_true}
+use Rattle.chart_meaning.specs.Step.{firing, is_guard_true}
 use Rattle.chart_meaning.specs.Rows.{candidates, AreRows, AreWaysDown, IsRowOf, IsRowThatFires}
 use Rattle.chart_meaning.specs.Tree.{way_down, way_out}
 

@@ -1,14 +1,13 @@
 -- States on the ways of a step, and what entries and exits keep.
-use Rattle.std.proofs.Common.{◌≡◌, ℕ, zero, suc, ◌+◌, ◌-◌, ◌<◌, ◌≤◌, Bool, true, false, cond, not, List, [], ◌∷◌, ◌++◌, length, get_or, take, drop, reverse, set, Option, None, Some, ℤ, ◌==◌, refl, ap, sym, subst, ◌∙◌, arith}
-use Rattle.std.specs.Prelude.{slice_get, position, count_by, sum_by, nat_lt, take_while, find}
+use Rattle.std.proofs.Common.{◌≡◌, ℕ, zero, suc, ◌+◌, ◌-◌, ◌<◌, ◌≤◌, Bool, true, false, cond, not, List, [], ◌∷◌, ◌++◌, length, get_or, take, drop, reverse, Option, None, Some, ℤ, refl, ap, sym, subst, ◌∙◌, arith}
+use Rattle.std.specs.Prelude.{position, count_by, nat_lt}
 use Rattle.std.specs.Option.{option_map_or}
-use Rattle.std.specs.List.{All, list_any, position_or_len}
+use Rattle.std.specs.List.{All, position_or_len}
 use Rattle.std.proofs.lemmas.Bool.{false≢true}
 use Rattle.std.proofs.lemmas.Bool.Decides.{nat_tests}
 use Rattle.std.proofs.lemmas.List.{length-reverse, get_or-reverse, drop_more, drop_all}
 use Rattle.std.proofs.lemmas.List.Elements.{All-nil, All-cons, All-weaker, All-tail, All-head, All-take}
 use Rattle.std.proofs.lemmas.List.Sums.{sum_by-cons, prefix_len-le-length}
-use Rattle.std.proofs.lemmas.Option.{same_Some}
 use Rattle.chart_model.specs.declared.action.Action.{Action}
 use Rattle.chart_model.specs.declared.action.Place.{Place}
 use Rattle.chart_model.specs.declared.action.Place.TheVariants as place

@@ -1,15 +1,15 @@
 -- How the starting configuration is filled in.
-use Rattle.std.proofs.Common.{◌≡◌, ◌≢◌, ℕ, zero, suc, ◌+◌, ◌-◌, ◌<◌, ◌≤◌, Bool, true, false, List, [], ◌∷◌, ◌++◌, length, get_or, take, set, map, replicate, Option, None, Some, ℤ, pos, if◌then◌else◌, refl, ap, sym, subst, ◌∙◌, arith}
-use Rattle.std.specs.Prelude.{slice_get, position, unsigned_abs}
-use Rattle.std.specs.List.{All, AllByRecursion, AllZip, range_with_len}
-use Rattle.std.proofs.lemmas.List.{append_assoc, append-nil, length-append, length-map, length-take-le, length-replicate, map_more, set_at, take_all, get_or_at}
+use Rattle.std.proofs.Common.{◌≡◌, ℕ, zero, suc, ◌+◌, ◌-◌, ◌<◌, ◌≤◌, Bool, true, false, List, [], ◌∷◌, ◌++◌, length, get_or, take, set, map, replicate, Option, None, Some, ℤ, pos, if◌then◌else◌, refl, ap, sym, subst, ◌∙◌, arith}
+use Rattle.std.specs.Prelude.{slice_get, unsigned_abs}
+use Rattle.std.specs.List.{AllByRecursion, AllZip, range_with_len}
+use Rattle.std.proofs.lemmas.List.{append_assoc, append-nil, length-append, length-map, length-take-le, map_more, set_at, take_all, get_or_at}
 use Rattle.std.proofs.lemmas.List.Elements.{All-weaker, recursion_from_All}
 use Rattle.std.proofs.lemmas.List.FromFn.{length-range_with_len, get_or-range_with_len, get_or-map-range_with_len, length-map-range_with_len}
 use Rattle.std.proofs.lemmas.Option.{slice_get-get_or, slice_get_within, get_or_from_slice_get, same_Some}
 use Rattle.chart_model.specs.declared.chart.Chart.{Chart}
 use Rattle.chart_model.specs.declared.state.Memory.{Memory}
 use Rattle.chart_model.specs.Chart.{IsMemory}
-use Rattle.chart_model.specs.States.{is_start_child_of, is_top_start, has_children}
+use Rattle.chart_model.specs.States.{is_start_child_of}
 use Rattle.chart_meaning.specs.Configuration.{Configuration}
 use Rattle.chart_meaning.specs.Step.{declared, enter, enter_all, first_last, is_remembering}
 use Rattle.chart_meaning.specs.Tree.{start_child, way_down}

@@ -1,5 +1,5 @@
 -- What actions do to a configuration.
-use Rattle.std.specs.Prelude.{ℕ, ℤ, ◌+ℤ◌, int_lt, if◌then◌else◌, List, [], ◌∷◌, slice_get, slice_set}
+use Rattle.std.specs.Prelude.{ℤ, ◌+ℤ◌, int_lt, if◌then◌else◌, List, [], ◌∷◌, slice_get, slice_set}
 use Rattle.std.specs.Option.{option_map_or}
 use Rattle.lin_form.specs.declared.form.Form.{Form}
 use Rattle.lin_form.specs.Form.{sum_of_products}

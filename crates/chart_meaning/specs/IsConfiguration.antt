@@ -1,5 +1,5 @@
 -- Which values are configurations of a chart.
-use Rattle.std.specs.Prelude.{◌≡◌, ℕ, ◌<◌, ◌≤◌, ℤ, ◌≤ℤ◌, unsigned_abs, true, false, List, length, slice_get, Option, None, Some}
+use Rattle.std.specs.Prelude.{◌≡◌, ℕ, ◌<◌, ℤ, ◌≤ℤ◌, unsigned_abs, true, false, length, slice_get, Option, None, Some}
 use Rattle.std.specs.List.{All, AllZip}
 use Rattle.chart_model.specs.declared.chart.Chart.{Chart}
 use Rattle.chart_model.specs.declared.state.Memory.{Memory}

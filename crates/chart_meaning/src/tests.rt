@@ -22,13 +22,24 @@ use std::test::Fail;
 type Assignment = (bool, i64, i64);
 
 /// A state's parent, whether it is a start, and its entry and exit actions.
-type StateRow<'a> = (Option<usize>, bool, &'a [Assignment], &'a [Assignment]);
+type StateRow = (
+    Option<usize>,
+    bool,
+    &'static [Assignment],
+    &'static [Assignment],
+);
 
 /// A relation with 0, and a sum's coefficients of the input x and the memory n and its constant.
 type Test = (Relation, i64, i64, i64);
 
 /// A transition's source, guard, effect, target, and whether it has history.
-type TransitionRow<'a> = (usize, Option<Test>, &'a [Assignment], Option<usize>, bool);
+type TransitionRow = (
+    usize,
+    Option<Test>,
+    &'static [Assignment],
+    Option<usize>,
+    bool,
+);
 
 fn is_small(number: i64) -> bool
     ensures { IsTrue result ↔ (unsigned_abs number ≤ 1000) }
@@ -303,219 +314,187 @@ fn chart(
     })
 }
 
+/// A chart with its memory's range and initial value, and inputs with the replies that are expected.
+#[derive(Clone, Copy)]
+struct Case {
+    name: &'static str,
+    range: (i64, i64, i64),
+    states: &'static [StateRow],
+    transitions: &'static [TransitionRow],
+    steps: &'static [(i64, i64)],
+}
+
 /// Runs a chart on inputs, and compares each reply.
-fn check(
-    rt: &impl Abort,
-    alloc: Global,
-    name: &str,
-    chart: Chart,
-    steps: &[(i64, i64)],
-) -> Result<(), AllocError> {
+fn check(rt: &impl Abort, alloc: Global, case: &Case) -> Result<(), AllocError> {
+    let chart = chart(rt, alloc, 0, case.range, case.states, case.transitions)?;
     let plan = ChartPlan::new(alloc, chart)?;
     let mut config = plan.start();
-    for (number, (input, want)) in steps.iter().enumerate() {
+    for (number, (input, want)) in case.steps.iter().enumerate() {
         let vector = Vector::from_slice(alloc, &[*input]);
         assert!(rt; plan.chart().signature.inputs.contains(&vector));
         let step = plan.step(&config, &vector);
         assert_eq!(rt;
             step.reply,
             Reply::from_slice(&[*want]),
-            "{name} at step {number}"
+            "{} at step {number}",
+            case.name
         );
         config = step.state;
     }
     Ok(())
 }
 
-/// The guard that the input is this number.
-fn at(input: i8) -> Option<Test> {
-    Some((Relation::Equal, 1, 0, -(input as i64)))
-}
+/// Guards that the input is this number.
+const IS_0: Option<Test> = Some((Relation::Equal, 1, 0, 0));
 
-#[test]
-fn worked_charts(rt: HostRuntime) -> Result<(), Fail> {
-    let alloc = rt.alloc();
+const IS_1: Option<Test> = Some((Relation::Equal, 1, 0, -1));
 
-    // n = n + 1, o = n: the memory stops at the end of its range, and the second action sees the first.
-    let count = chart(
-        &rt,
-        alloc,
-        0,
-        (0, 3, 0),
-        &[(None, true, &[], &[])],
-        &[(0, None, &[(true, 1, 1), (false, 1, 0)], None, false)],
-    )?;
-    check(
-        &rt,
-        alloc,
-        "count",
-        count,
-        &[(0, 1), (0, 2), (0, 3), (0, 3)],
-    )?;
+const IS_2: Option<Test> = Some((Relation::Equal, 1, 0, -2));
 
-    // On at 8 and above, off at 5 and below.
-    let alarm = chart(
-        &rt,
-        alloc,
-        0,
-        (0, 0, 0),
-        &[(None, true, &[], &[]), (None, false, &[], &[])],
-        &[
-            (
-                0,
-                Some((Relation::GreaterOrEqual, 1, 0, -8)),
-                &[(false, 0, 1)],
-                Some(1),
-                false,
-            ),
-            (
-                1,
-                Some((Relation::LessOrEqual, 1, 0, -5)),
-                &[(false, 0, 0)],
-                Some(0),
-                false,
-            ),
-        ],
-    )?;
-    check(
-        &rt,
-        alloc,
-        "alarm",
-        alarm,
-        &[(3, 0), (8, 1), (6, 1), (5, 0)],
-    )?;
+const IS_3: Option<Test> = Some((Relation::Equal, 1, 0, -3));
 
-    // P holds A and B. The inner transition comes before the outer one; exit, effect and entry come in this order.
-    let nest = chart(
-        &rt,
-        alloc,
-        0,
-        (0, 0, 0),
-        &[
-            (None, true, &[], &[]),
-            (Some(0), true, &[], &[(false, 0, 1)]),
-            (Some(0), false, &[(false, 0, 2)], &[]),
-            (None, false, &[], &[]),
-        ],
-        &[
-            (1, at(1), &[(false, 0, 5)], Some(2), false),
-            (
-                0,
-                Some((Relation::GreaterOrEqual, 1, 0, 0)),
-                &[(false, 0, 9)],
-                Some(3),
-                false,
-            ),
-        ],
-    )?;
-    check(&rt, alloc, "nest", nest, &[(1, 2), (1, 9), (0, 9)])?;
+const IS_4: Option<Test> = Some((Relation::Equal, 1, 0, -4));
 
-    // Two enabled transitions of one state, a guard over the memory, and both ends of the memory's range.
-    let written = chart(
-        &rt,
-        alloc,
-        0,
-        (-2, 3, 0),
-        &[(None, true, &[], &[])],
-        &[
-            (0, at(1), &[(true, 1, 5), (false, 1, 0)], None, false),
-            (0, at(2), &[(true, 1, -7), (false, 1, 0)], None, false),
-            (
-                0,
-                Some((Relation::Less, 0, 1, 0)),
-                &[(false, 0, 8)],
-                None,
-                false,
-            ),
-            (0, None, &[(false, 0, 7)], None, false),
-        ],
-    )?;
-    check(
-        &rt,
-        alloc,
-        "written",
-        written,
-        &[(0, 7), (1, 3), (0, 7), (2, -2), (0, 8), (1, 3)],
-    )?;
-    Ok(())
-}
+const IS_5: Option<Test> = Some((Relation::Equal, 1, 0, -5));
 
-// P holds A and B, and B holds C and D. Each exit and entry writes a digit to n in base 4, and a leaf's entry shows n.
-#[test]
-fn ways_through_the_tree(rt: HostRuntime) -> Result<(), Fail> {
-    let alloc = rt.alloc();
-    let tree = chart(
-        &rt,
-        alloc,
-        0,
-        (0, 255, 0),
-        &[
-            (None, true, &[(true, 4, 1)], &[(true, 4, 2)]),
-            (
-                Some(0),
-                true,
-                &[(true, 4, 3), (false, 1, 0)],
-                &[(true, 4, 1)],
-            ),
-            (Some(0), false, &[(true, 4, 1)], &[]),
-            (Some(2), true, &[(true, 4, 2), (false, 1, 0)], &[]),
-            (Some(2), false, &[(true, 4, 3), (false, 1, 0)], &[]),
-        ],
-        &[
-            (1, at(1), &[], Some(0), false),
-            (1, at(2), &[(true, 4, 2)], Some(1), false),
-            (1, at(3), &[], Some(4), false),
-            (1, at(4), &[(true, 1, 5), (false, 1, 0)], None, false),
-            (0, at(0), &[(true, 0, 0), (false, 0, 0)], None, false),
-            (4, at(5), &[], Some(1), false),
-        ],
-    )?;
-    let steps = [
+const IS_6: Option<Test> = Some((Relation::Equal, 1, 0, -6));
+
+const IS_7: Option<Test> = Some((Relation::Equal, 1, 0, -7));
+
+/// n = n + 1, o = n: the memory stops at the end of its range, and the second action sees the first.
+const COUNT: Case = Case {
+    name: "count",
+    range: (0, 3, 0),
+    states: &[(None, true, &[], &[])],
+    transitions: &[(0, None, &[(true, 1, 1), (false, 1, 0)], None, false)],
+    steps: &[(0, 1), (0, 2), (0, 3), (0, 3)],
+};
+
+/// On at 8 and above, off at 5 and below.
+const ALARM: Case = Case {
+    name: "alarm",
+    range: (0, 0, 0),
+    states: &[(None, true, &[], &[]), (None, false, &[], &[])],
+    transitions: &[
+        (
+            0,
+            Some((Relation::GreaterOrEqual, 1, 0, -8)),
+            &[(false, 0, 1)],
+            Some(1),
+            false,
+        ),
+        (
+            1,
+            Some((Relation::LessOrEqual, 1, 0, -5)),
+            &[(false, 0, 0)],
+            Some(0),
+            false,
+        ),
+    ],
+    steps: &[(3, 0), (8, 1), (6, 1), (5, 0)],
+};
+
+/// P holds A and B. The inner transition comes before the outer one; exit, effect and entry come in this order.
+const NEST: Case = Case {
+    name: "nest",
+    range: (0, 0, 0),
+    states: &[
+        (None, true, &[], &[]),
+        (Some(0), true, &[], &[(false, 0, 1)]),
+        (Some(0), false, &[(false, 0, 2)], &[]),
+        (None, false, &[], &[]),
+    ],
+    transitions: &[
+        (1, IS_1, &[(false, 0, 5)], Some(2), false),
+        (
+            0,
+            Some((Relation::GreaterOrEqual, 1, 0, 0)),
+            &[(false, 0, 9)],
+            Some(3),
+            false,
+        ),
+    ],
+    steps: &[(1, 2), (1, 9), (0, 9)],
+};
+
+/// The first written of several enabled transitions, a guard over the memory, and both ends of the memory's range.
+const WRITTEN: Case = Case {
+    name: "written",
+    range: (-2, 3, 0),
+    states: &[(None, true, &[], &[])],
+    transitions: &[
+        (0, IS_1, &[(true, 1, 5), (false, 1, 0)], None, false),
+        (0, IS_2, &[(true, 1, -7), (false, 1, 0)], None, false),
+        (
+            0,
+            Some((Relation::Less, 0, 1, 0)),
+            &[(false, 0, 8)],
+            None,
+            false,
+        ),
+        (0, None, &[(false, 0, 7)], None, false),
+    ],
+    steps: &[(0, 7), (1, 3), (0, 7), (2, -2), (0, 8), (1, 3)],
+};
+
+/// P holds A and B, and B holds C and D. Exits and entries write a digit to n in base 4, and a leaf's entry shows n.
+/// The steps are: clear n; from A to its own parent; clear; to itself; clear; twice without a target; clear; to its
+/// sibling's child D, which is no start; nothing; and back.
+const TREE: Case = Case {
+    name: "tree",
+    range: (0, 255, 0),
+    states: &[
+        (None, true, &[(true, 4, 1)], &[(true, 4, 2)]),
+        (
+            Some(0),
+            true,
+            &[(true, 4, 3), (false, 1, 0)],
+            &[(true, 4, 1)],
+        ),
+        (Some(0), false, &[(true, 4, 1)], &[]),
+        (Some(2), true, &[(true, 4, 2), (false, 1, 0)], &[]),
+        (Some(2), false, &[(true, 4, 3), (false, 1, 0)], &[]),
+    ],
+    transitions: &[
+        (1, IS_1, &[], Some(0), false),
+        (1, IS_2, &[(true, 4, 2)], Some(1), false),
+        (1, IS_3, &[], Some(4), false),
+        (1, IS_4, &[(true, 1, 5), (false, 1, 0)], None, false),
+        (0, IS_0, &[(true, 0, 0), (false, 0, 0)], None, false),
+        (4, IS_5, &[], Some(1), false),
+    ],
+    steps: &[
         (0, 0),
-        // To its own parent: out of A and P, and into P and A.
         (1, 103),
         (0, 0),
-        // To itself: out of A, the effect, and into A.
         (2, 27),
         (0, 0),
-        // Without a target inside a nested state.
         (4, 5),
         (4, 10),
         (0, 0),
-        // To a sibling's child: out of A, and into B and D, which is no start.
         (3, 23),
         (1, 23),
-        // Back: out of D and B, which write nothing, and into A.
         (5, 95),
-    ];
-    check(&rt, alloc, "tree", tree, &steps)?;
-    Ok(())
-}
+    ],
+};
 
-#[test]
-fn last_children(rt: HostRuntime) -> Result<(), Fail> {
-    let alloc = rt.alloc();
-
-    // Q goes back to P with history, and without.
-    let plain = chart(
-        &rt,
-        alloc,
-        0,
-        (0, 0, 0),
-        &[
-            (None, true, &[], &[]),
-            (Some(0), true, &[(false, 0, 1)], &[]),
-            (Some(0), false, &[(false, 0, 2)], &[]),
-            (None, false, &[(false, 0, 9)], &[]),
-        ],
-        &[
-            (1, at(1), &[], Some(2), false),
-            (0, at(2), &[], Some(3), false),
-            (3, at(1), &[], Some(0), true),
-            (3, at(2), &[], Some(0), false),
-        ],
-    )?;
-    let steps = [
+/// Q goes back to P, which holds A and B, with history and without.
+const HISTORY: Case = Case {
+    name: "history",
+    range: (0, 0, 0),
+    states: &[
+        (None, true, &[], &[]),
+        (Some(0), true, &[(false, 0, 1)], &[]),
+        (Some(0), false, &[(false, 0, 2)], &[]),
+        (None, false, &[(false, 0, 9)], &[]),
+    ],
+    transitions: &[
+        (1, IS_1, &[], Some(2), false),
+        (0, IS_2, &[], Some(3), false),
+        (3, IS_1, &[], Some(0), true),
+        (3, IS_2, &[], Some(0), false),
+    ],
+    steps: &[
         (0, 1),
         (1, 2),
         (2, 9),
@@ -524,81 +503,77 @@ fn last_children(rt: HostRuntime) -> Result<(), Fail> {
         (2, 1),
         (2, 9),
         (1, 1),
-    ];
-    check(&rt, alloc, "plain", plain, &steps)?;
+    ],
+};
 
-    // P holds A and B, and B holds C and D; P and B both remember. Q stands apart.
-    let nested = chart(
-        &rt,
-        alloc,
-        0,
-        (0, 0, 0),
-        &[
-            (None, true, &[], &[]),
-            (Some(0), true, &[(false, 0, 1)], &[]),
-            (Some(0), false, &[(false, 0, 2)], &[]),
-            (Some(2), true, &[(false, 0, 3)], &[]),
-            (Some(2), false, &[(false, 0, 4)], &[]),
-            (None, false, &[(false, 0, 9)], &[]),
-        ],
-        &[
-            (3, at(2), &[], Some(4), false),
-            (0, at(3), &[], Some(5), false),
-            (5, at(4), &[], Some(0), true),
-            (5, at(5), &[], Some(2), true),
-            (0, at(6), &[], Some(0), true),
-            (2, at(7), &[], Some(2), true),
-        ],
-    )?;
-    let steps = [
+/// P holds A and B, and B holds C and D; P and B both remember. Q stands apart. The steps are: A; Q; B, which was
+/// never left, so C; D; Q; P, whose last child B enters its start child C; D; Q; B, so D; B from inside, so D again;
+/// twice P from inside, so B and C; Q; B, which was left with C since.
+const NESTED_HISTORY: Case = Case {
+    name: "nested history",
+    range: (0, 0, 0),
+    states: &[
+        (None, true, &[], &[]),
+        (Some(0), true, &[(false, 0, 1)], &[]),
+        (Some(0), false, &[(false, 0, 2)], &[]),
+        (Some(2), true, &[(false, 0, 3)], &[]),
+        (Some(2), false, &[(false, 0, 4)], &[]),
+        (None, false, &[(false, 0, 9)], &[]),
+    ],
+    transitions: &[
+        (3, IS_2, &[], Some(4), false),
+        (0, IS_3, &[], Some(5), false),
+        (5, IS_4, &[], Some(0), true),
+        (5, IS_5, &[], Some(2), true),
+        (0, IS_6, &[], Some(0), true),
+        (2, IS_7, &[], Some(2), true),
+    ],
+    steps: &[
         (0, 1),
         (3, 9),
-        // B was never left: its start child C.
         (5, 3),
         (2, 4),
         (3, 9),
-        // P's last child B remembers too, and its start child is entered.
         (4, 3),
         (2, 4),
         (3, 9),
-        // B's last child D.
         (5, 4),
-        // B, left from inside: D again.
         (7, 4),
-        // P, left from inside: B, and its start child C.
         (6, 3),
         (6, 3),
         (3, 9),
-        // B was left with C since.
         (5, 3),
-    ];
-    check(&rt, alloc, "nested", nested, &steps)?;
+    ],
+};
+
+#[test]
+fn replies(rt: HostRuntime) -> Result<(), Fail> {
+    for case in &[COUNT, ALARM, NEST, WRITTEN, TREE, HISTORY, NESTED_HISTORY] {
+        check(&rt, rt.alloc(), case)?;
+    }
     Ok(())
 }
 
-/// Configurations are the same exactly where they lead on alike here, and are copied.
 #[test]
 fn configurations_are_compared(rt: HostRuntime) -> Result<(), Fail> {
     let alloc = rt.alloc();
-    let count = chart(
+    let chart = chart(
         &rt,
         alloc,
         0,
-        (0, 3, 0),
-        &[(None, true, &[], &[])],
-        &[(0, at(1), &[(true, 1, 1)], None, false)],
+        WRITTEN.range,
+        WRITTEN.states,
+        WRITTEN.transitions,
     )?;
-    let plan = ChartPlan::new(alloc, count)?;
+    let plan = ChartPlan::new(alloc, chart)?;
     let start = plan.start();
-    let (still, moves) = (
-        Vector::from_slice(alloc, &[0]),
-        Vector::from_slice(alloc, &[1]),
-    );
-    assert!(rt; plan.chart().signature.inputs.contains(&still));
-    assert!(rt; plan.chart().signature.inputs.contains(&moves));
-    let stayed = plan.step(&start, &still).state;
-    let moved = plan.step(&start, &moves).state;
-    assert_eq!(rt; stayed, start);
-    assert_ne!(rt; moved, start);
+    let low = Vector::from_slice(alloc, &[1]);
+    let high = Vector::from_slice(alloc, &[2]);
+    assert!(rt; plan.chart().signature.inputs.contains(&low));
+    assert!(rt; plan.chart().signature.inputs.contains(&high));
+    let up = plan.step(&start, &low).state;
+    let down = plan.step(&start, &high).state;
+    assert_ne!(rt; up, down);
+    assert_eq!(rt; plan.step(&up, &low).state, up);
     Ok(())
 }

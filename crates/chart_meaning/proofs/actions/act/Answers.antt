@@ -1,4 +1,4 @@
-use Rattle.std.proofs.Common.{◌≡◌, ◌<◌, Some, length, ◌∙◌, sym, rules, arith, w64, FitsSigned, ap}
+use Rattle.std.proofs.Common.{◌≡◌, Some, ◌∙◌, sym, arith, w64, FitsSigned, ap}
 use Rattle.std.specs.Prelude.{slice_get}
 use Rattle.std.proofs.lemmas.Int.{to_z-of_z}
 use Rattle.std.proofs.lemmas.Option.{slice_get-get_or}

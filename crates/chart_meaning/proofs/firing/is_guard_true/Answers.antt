@@ -1,4 +1,4 @@
-use Rattle.std.proofs.Common.{◌≡◌, ◌∙◌, ap, sym, true}
+use Rattle.std.proofs.Common.{◌∙◌, ap, sym, true}
 use Rattle.std.specs.Option.{option_map_or}
 use Rattle.lin_form.proofs.CallerLemmas.{length-IsInInputRanges}
 use Rattle.chart_model.specs.Guard.{truth_of_guard}

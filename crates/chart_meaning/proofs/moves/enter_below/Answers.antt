@@ -1,4 +1,4 @@
-use Rattle.std.proofs.Common.{◌<◌, length, ◌∙◌, sym, arith}
+use Rattle.std.proofs.Common.{◌∙◌, sym, arith}
 use Rattle.chart_meaning.proofs.Taking.{last_child-inside}
 use Rattle.chart_meaning.proofs.moves.enter_below.Goals as goal
 

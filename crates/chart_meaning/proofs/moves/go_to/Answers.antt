@@ -1,4 +1,4 @@
-use Rattle.std.proofs.Common.{◌≡◌, ◌<◌, length, ◌∙◌, ap, None}
+use Rattle.std.proofs.Common.{◌<◌, length, ◌∙◌, ap, None}
 use Rattle.chart_meaning.specs.Actions.{run}
 use Rattle.chart_meaning.specs.Step.{enter_all, enter_target, exit_all}
 use Rattle.chart_meaning.proofs.Moving.{IsUpFrom-below, IsUpFrom-way_out, All-below, AreStates-way_out, AreStates-entered, run-last, enter_all-last}

@@ -1,4 +1,3 @@
-use Rattle.std.proofs.Common.{◌∙◌, arith}
 use Rattle.chart_meaning.proofs.Starting.{IsSettingLast-start, IsSettingLast-none, IsSettingLast-more, IsSettingLast-end}
 use Rattle.chart_meaning.proofs.start.set_first_last.Goals as goal
 

@@ -1,7 +1,5 @@
-use Rattle.std.proofs.Common.{◌≡◌, ◌≤◌, ◌∷◌, [], List, FitsSigned, w64, rules, rules, subst}
-use Rattle.std.specs.Prelude.{unsigned_abs, ℤ}
-use Rattle.std.proofs.lemmas.Int.{to_z-of_z}
-use Rattle.chart_model.specs.declared.state.Memory.{Memory}
+use Rattle.std.proofs.Common.{◌≡◌, ◌≤◌, ◌∷◌, [], rules, rules}
+use Rattle.std.specs.Prelude.{unsigned_abs}
 use Rattle.chart_meaning.proofs.SmallCharts.{IsChart-small}
 use Rattle.chart_meaning.proofs.tests.chart.Goals as goal
 

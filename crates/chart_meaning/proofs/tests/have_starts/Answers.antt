@@ -1,4 +1,4 @@
-use Rattle.std.proofs.Common.{◌≡◌, take, ap, ◌∙◌, subst}
+use Rattle.std.proofs.Common.{◌≡◌, subst}
 use Rattle.std.specs.Prelude.{count_by}
 use Rattle.std.specs.Option.{ForSome}
 use Rattle.std.specs.List.{All}

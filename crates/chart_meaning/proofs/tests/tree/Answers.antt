@@ -1,4 +1,4 @@
-use Rattle.std.proofs.Common.{◌≡◌, true, rules, sym, ◌∙◌}
+use Rattle.std.proofs.Common.{◌≡◌, rules}
 use Rattle.std.specs.Prelude.{count_by}
 use Rattle.chart_model.specs.States.{is_top_start}
 use Rattle.chart_meaning.proofs.SmallCharts.{AreNames-states, AreParentsFirst, HaveStarts, IsTree-small}

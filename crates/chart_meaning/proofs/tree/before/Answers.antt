@@ -1,4 +1,4 @@
-use Rattle.chart_meaning.proofs.Climbing.{IsTakenBefore-start, IsTakenBefore-more, IsTakenBefore-stop, IsTakenBefore-end}
+use Rattle.chart_meaning.proofs.Climbing.{IsTakenBefore-start, IsTakenBefore-more}
 use Rattle.chart_meaning.proofs.tree.before.Goals as goal
 
 pub loop-state-init : goal.loop-state-init

@@ -1,4 +1,4 @@
-use Rattle.chart_meaning.proofs.Storing.{None_child_at, Some_child_at}
+use Rattle.chart_meaning.proofs.Storing.{Some_child_at}
 use Rattle.chart_meaning.proofs.config.Config.last_child.Goals as goal
 
 pub returns-else-code-eq0 : goal.returns-else-code-eq0
