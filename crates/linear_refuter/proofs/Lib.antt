@@ -6,3 +6,4 @@ pub mod Soundness
 pub mod Clashes
 pub mod Bits
 pub mod Answers
+pub mod CallerLemmas

@@ -23,12 +23,20 @@ pub fn decide(alloc: Global, literals: &[Literal], bounds: &Bounds) -> Result<An
     requires shaped { IsShaped literals.now bounds.now }
     ensures { IfOk result (λ a. IsAnswer literals.now bounds.now a) }
 {
+    decide_within(alloc, literals, &Part::of(bounds))
+}
+
+/// The same for a part of a box.
+pub fn decide_within(alloc: Global, literals: &[Literal], part: &Part) -> Result<Answer, AllocError>
+    requires few { length literals.now ≤ 256 }
+    requires shaped { IsShaped literals.now part.now }
+    ensures { IfOk result (λ a. IsAnswer literals.now part.now a) }
+{
     if let Some(pair) = clash(literals) {
         let tree = sum(alloc, &[once(pair.0), once(pair.1)])?;
         return Ok(Answer::Refuted(tree));
     }
-    let part = Part::of(bounds);
-    decide_part(alloc, literals, &part, 21 * part.inputs())
+    decide_part(alloc, literals, part, 21 * part.inputs())
 }
 
 /// The answer for a box, which may be tightened at one bound before it is halved.

@@ -16,7 +16,7 @@ mod term;
 mod tree;
 
 pub use check::check_tree;
-pub use decision::decide;
+pub use decision::{decide, decide_within};
 pub use law::refuted_literals_have_no_vector;
 pub use part::Part;
 pub use tree::{Answer, Tree, Weight};

@@ -1,0 +1,39 @@
+//! The lexicographically least vector of a box on which linear inequalities are as they are said to be.
+#![tactic(auto)]
+
+ghost use Rattle.std.specs.Prelude.{◌≤◌, length, IfOk};
+ghost use Rattle.linear_refuter.specs.Sum.{IsShaped};
+ghost use Rattle.witness_pick.specs.Least.{IsPick};
+
+mod narrowing;
+
+use lin_form::{Bounds, Literal, Vector};
+use linear_refuter::{Answer, Part, Tree, decide};
+use narrowing::narrowed;
+use std::alloc::{AllocError, Global};
+
+/// The least vector of a box on which every literal is as it says, or why there is none.
+#[derive(Drop)]
+pub enum Pick {
+    Least(Vector),
+    None(Tree),
+}
+
+/// The lexicographically least vector of the box on which every literal is as it says, or a refutation.
+///
+/// The inputs are fixed in order. The least number of each is found by queries to `decide_within` on a lower part of
+/// its range.
+pub fn least(alloc: Global, literals: &[Literal], bounds: &Bounds) -> Result<Pick, AllocError>
+    requires few { length literals.now ≤ 160 }
+    requires shaped { IsShaped literals.now bounds.now }
+    ensures { IfOk result (λ p. IsPick literals.now bounds.now p) }
+{
+    match decide(alloc, literals, bounds)? {
+        Answer::Refuted(tree) => Ok(Pick::None(tree)),
+        Answer::Point(vector) => {
+            let limits = Part::of(bounds);
+            let least = narrowed(alloc, literals, bounds, &limits, vector, true)?;
+            Ok(Pick::Least(least))
+        }
+    }
+}
