@@ -1,5 +1,6 @@
-use crate::{Part, Weight};
-use lin_form::Literal;
+use crate::Weight;
+use crate::relaxation::{greater, magnitude};
+use std::num::{nearest_i64_to_f64, saturating_f64_to_i64, saturating_f64_to_u32};
 
 /// A cut of one variable, with the sum that may refute one side of it.
 #[derive(Drop)]
@@ -37,6 +38,29 @@ impl Few {
         }
     }
 
+    /// Whole numbers in about the proportions of these parts.
+    pub(crate) fn of_parts(parts: &[(usize, f64); 8]) -> Few {
+        let mut most = 0.0;
+        for part in parts.iter() {
+            most = greater(most, part.1);
+        }
+        let mut unit = most;
+        for part in parts.iter() {
+            if part.1 > most * 1e-9 && part.1 < unit {
+                unit = part.1;
+            }
+        }
+        let factor = whole_factor(parts, unit, most);
+        let mut few = Few::none();
+        for part in parts.iter() {
+            let times = saturating_f64_to_u32(part.1 * factor + 0.5);
+            if times > 0 {
+                few.push(part.0, times);
+            }
+        }
+        few
+    }
+
     pub(crate) fn as_slice(&self) -> &[Weight] {
         if self.count <= 8 {
             &self.weights[..self.count]
@@ -60,15 +84,51 @@ pub(crate) struct Hint {
     pub(crate) upper_first: bool,
 }
 
-/// A guess for the literals on a box.
-pub(crate) fn guess(literals: &[Literal], part: &Part) -> Hint {
-    let _ = literals;
-    let _ = part;
-    Hint {
-        sum: Few::none(),
-        point: [0; 6],
-        trim: None,
-        variable: 0,
-        upper_first: false,
+/// A factor that makes the parts whole numbers, or large where there is none.
+fn whole_factor(parts: &[(usize, f64); 8], unit: f64, most: f64) -> f64 {
+    let largest = 4e9 / most;
+    let mut factor = 1.0 / unit;
+    for part in parts.iter() {
+        if part.1 > most * 1e-9 {
+            factor = factor * denominator(part.1 * factor);
+        }
     }
+    if factor > 0.0 && factor < largest {
+        factor
+    } else {
+        largest
+    }
+}
+
+/// The denominator of a fraction close to a number, by its continued fraction.
+fn denominator(number: f64) -> f64 {
+    let mut before = 0.0;
+    let mut now = 1.0;
+    let mut left = number;
+    for _ in 0..20 {
+        let whole = floor(left);
+        let rest = left - whole;
+        if magnitude(number * now - round(number * now)) < 1e-9 * greater(1.0, number)
+            || rest < 1e-12
+        {
+            return now;
+        }
+        left = 1.0 / rest;
+        let next = floor(left) * now + before;
+        before = now;
+        now = next;
+        if now > 4e9 {
+            return now;
+        }
+    }
+    now
+}
+
+pub(crate) fn floor(number: f64) -> f64 {
+    let whole = nearest_i64_to_f64(saturating_f64_to_i64(number));
+    if whole > number { whole - 1.0 } else { whole }
+}
+
+pub(crate) fn round(number: f64) -> f64 {
+    floor(number + 0.5)
 }

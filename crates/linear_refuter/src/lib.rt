@@ -5,11 +5,13 @@
 mod check;
 mod clash;
 mod decision;
+mod guess;
 mod halving;
 mod hint;
 mod law;
 mod part;
 mod point;
+mod relaxation;
 mod settle;
 mod sum;
 mod term;

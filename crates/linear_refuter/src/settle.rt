@@ -4,7 +4,8 @@ ghost use Rattle.linear_refuter.specs.Sum.{IsShaped, IsSum, once};
 ghost use Rattle.linear_refuter.specs.Refutation.{NoSingle, leaf, plain};
 ghost use Rattle.linear_refuter.specs.Decision.{IsSettled, NoClash};
 
-use crate::hint::{Hint, guess};
+use crate::guess::guess;
+use crate::hint::Hint;
 use crate::point::point;
 use crate::sum::is_refuted_by;
 use crate::{Answer, Part, Tree, Weight};

@@ -5,7 +5,11 @@ ghost use Rattle.std.specs.Prelude.{◌≤◌, length, IfOk};
 ghost use Rattle.linear_refuter.specs.Sum.{IsShaped};
 ghost use Rattle.witness_pick.specs.Least.{IsPick};
 
+#[cfg(test)]
+mod making;
 mod narrowing;
+#[cfg(test)]
+mod tests;
 
 use lin_form::{Bounds, Literal, Vector};
 use linear_refuter::{Answer, Part, Tree, decide};
