@@ -1,5 +1,5 @@
 use crate::Part;
-use crate::hint::{Few, Hint, floor, round};
+use crate::hint::{Few, Hint, ceiling, round};
 use crate::relaxation::{Relaxation, Repaired};
 use lin_form::Literal;
 use std::num::{nearest_i64_to_f64, saturating_f64_to_i64};
@@ -16,25 +16,41 @@ pub(crate) fn guess(literals: &[Literal], part: &Part) -> Hint {
     let mut relaxation = Relaxation::of(literals, part);
     match relaxation.repair() {
         Repaired::Stuck(row) => hint.sum = relaxation.sum_of(row),
-        Repaired::Feasible => hint.point = rounded(&mut relaxation, part),
+        Repaired::Feasible => match dive(&mut relaxation, part, true) {
+            Some(point) => hint.point = point,
+            None => {
+                let mut relaxation = Relaxation::of(literals, part);
+                if let Repaired::Feasible = relaxation.repair() {
+                    if let Some(point) = dive(&mut relaxation, part, false) {
+                        hint.point = point;
+                    }
+                }
+            }
+        },
         Repaired::Unknown => {}
     }
     hint
 }
 
-/// Fixes each variable at a whole number close to its value, one after the other.
-fn rounded(relaxation: &mut Relaxation, part: &Part) -> [i64; 6] {
+/// Fixes each variable at a whole number, one after the other, the least first or one in the middle.
+fn dive(relaxation: &mut Relaxation, part: &Part, least: bool) -> Option<[i64; 6]> {
     let mut point = [0; 6];
     for variable in 0..part.inputs() {
-        let number = round(relaxation.number(variable));
+        relaxation.move_to_end(variable, false);
+        let low = ceiling(relaxation.number(variable) - 1e-6);
+        let mut number = low;
+        if !least {
+            relaxation.move_to_end(variable, true);
+            number = round((low + relaxation.number(variable)) / 2.0);
+        }
         relaxation.fix(variable, number);
         match relaxation.repair() {
             Repaired::Feasible => {}
-            _ => return point,
+            _ => return None,
         }
         point[variable % 6] = saturating_f64_to_i64(number);
     }
-    point
+    Some(point)
 }
 
 fn widest(part: &Part) -> usize {

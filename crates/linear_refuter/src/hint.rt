@@ -132,3 +132,7 @@ pub(crate) fn floor(number: f64) -> f64 {
 pub(crate) fn round(number: f64) -> f64 {
     floor(number + 0.5)
 }
+
+pub(crate) fn ceiling(number: f64) -> f64 {
+    -floor(-number)
+}

@@ -219,6 +219,81 @@ impl Relaxation {
         Repaired::Unknown
     }
 
+    /// Moves an input to its least or its greatest value, from a point of the relaxation.
+    pub(crate) fn move_to_end(&mut self, variable: usize, up: bool) {
+        for round in 0..100 {
+            let Some(row) = self.row_of(variable) else {
+                self.release(variable, up);
+                return;
+            };
+            let Some(column) = self.entering(row, up, round) else {
+                return;
+            };
+            let onward = (self.cell(row, column) > 0.0) == up;
+            self.advance(column, onward);
+        }
+    }
+
+    /// Lets a resting input move towards its least or its greatest value.
+    fn release(&mut self, variable: usize, up: bool) {
+        if let Some(column) = self.column_of(variable) {
+            if self.can_move(column, up) {
+                self.advance(column, up);
+            }
+        }
+    }
+
+    /// Moves the variable of a column up or down until it or that of a row reaches a bound, which rests then.
+    fn advance(&mut self, column: usize, up: bool) {
+        let variable = self.resting[column % 8];
+        let at = self.rest[column % 8];
+        let mut most = if up {
+            self.upper(variable) - at
+        } else {
+            at - self.lower(variable)
+        };
+        let mut first = None;
+        let mut strongest = 0.0;
+        for row in 0..self.rows {
+            let factor = self.cell(row, column);
+            if magnitude(factor) > SMALL {
+                let room = self.room(row, (factor > 0.0) == up) / magnitude(factor);
+                if room < most - SMALL || (room < most + SMALL && magnitude(factor) > strongest) {
+                    most = if room < most { room } else { most };
+                    strongest = magnitude(factor);
+                    first = Some(row);
+                }
+            }
+        }
+        match first {
+            Some(row) => {
+                let rising = (self.cell(row, column) > 0.0) == up;
+                let limited = self.basic[row % 256];
+                let target = if rising {
+                    self.upper(limited)
+                } else {
+                    self.lower(limited)
+                };
+                self.pivot(row, column, target);
+            }
+            None => {
+                self.rest[column % 8] = if up { at + most } else { at - most };
+            }
+        }
+    }
+
+    /// How far the variable of a row can move up or down.
+    fn room(&self, row: usize, up: bool) -> f64 {
+        let variable = self.basic[row % 256];
+        let value = self.value(row);
+        let room = if up {
+            self.upper(variable) - value
+        } else {
+            value - self.lower(variable)
+        };
+        greater(room, 0.0)
+    }
+
     /// The row whose variable lies farthest outside its bounds.
     fn violated(&self, round: usize) -> Option<usize> {
         let mut found = None;
