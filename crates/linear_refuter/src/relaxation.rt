@@ -341,6 +341,14 @@ impl Relaxation {
         found
     }
 
+    /// The sum that bounds an input at its least or greatest value.
+    pub(crate) fn sum_at(&self, variable: usize) -> Few {
+        match self.row_of(variable) {
+            Some(row) => self.sum_of(row),
+            None => Few::none(),
+        }
+    }
+
     /// The sum that a row gives, of the literals that rest in it and its own.
     pub(crate) fn sum_of(&self, row: usize) -> Few {
         let mut parts = [(0, 0.0); 8];
