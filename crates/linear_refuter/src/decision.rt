@@ -16,7 +16,7 @@ use std::alloc::{AllocError, Global};
 
 /// A vector of the box on which every literal is as it says, or a lean refutation.
 ///
-/// Where no sum refutes a box and no vector is found, its widest ranges are halved, with at most one split between two
+/// Where no sum refutes a box and no vector is found, its ranges are halved, with at most one split between two
 /// halvings that tightens a bound. Which sums, vectors and splits are tried is guessed; each is tested.
 pub fn decide(alloc: Global, literals: &[Literal], bounds: &Bounds) -> Result<Answer, AllocError>
     requires few { length literals.now ≤ 256 }
@@ -52,7 +52,7 @@ fn decide_part(
     requires bits { HasBits part.now left }
     ensures { IfOk result (λ a. IsAnswerWithin (2 * left + 1) literals.now part.now a) }
 {
-    match settle(alloc, literals, part)? {
+    match settle(alloc, literals, part, true)? {
         Settled::Done(answer) => Ok(answer),
         Settled::Open(hint) => match &hint.trim {
             Some(trim) => decide_trimmed(alloc, literals, part, trim, &hint, left),
@@ -122,7 +122,7 @@ fn decide_rest(
     requires bits { HasBits part.now left }
     ensures { IfOk result (λ a. IsAnswerWithin (2 * left) literals.now part.now a) }
 {
-    match settle(alloc, literals, part)? {
+    match settle(alloc, literals, part, false)? {
         Settled::Done(answer) => Ok(answer),
         Settled::Open(hint) => decide_halves(alloc, literals, part, &hint, left),
     }
@@ -149,24 +149,12 @@ fn decide_halves(
     };
     let below = part.below(cut.0, cut.1);
     let above = part.above(cut.0, cut.1);
-    if hint.upper_first {
-        match decide_part(alloc, literals, &above, left - 1)? {
+    match decide_part(alloc, literals, &below, left - 1)? {
+        Answer::Point(vector) => Ok(Answer::Point(vector)),
+        Answer::Refuted(low) => match decide_part(alloc, literals, &above, left - 1)? {
             Answer::Point(vector) => Ok(Answer::Point(vector)),
-            Answer::Refuted(high) => match decide_part(alloc, literals, &below, left - 1)? {
-                Answer::Point(vector) => Ok(Answer::Point(vector)),
-                Answer::Refuted(low) => Ok(Answer::Refuted(split(alloc, cut.0, cut.1, low, high)?)),
-            },
-        }
-    } else {
-        match decide_part(alloc, literals, &below, left - 1)? {
-            Answer::Point(vector) => Ok(Answer::Point(vector)),
-            Answer::Refuted(low) => match decide_part(alloc, literals, &above, left - 1)? {
-                Answer::Point(vector) => Ok(Answer::Point(vector)),
-                Answer::Refuted(high) => Ok(Answer::Refuted(split(
-                    alloc, cut.0, cut.1, low, high,
-                )?)),
-            },
-        }
+            Answer::Refuted(high) => Ok(Answer::Refuted(split(alloc, cut.0, cut.1, low, high)?)),
+        },
     }
 }
 

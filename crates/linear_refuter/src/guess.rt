@@ -2,23 +2,22 @@ use crate::Part;
 use crate::hint::{Few, Hint, Trim, ceiling, floor, round};
 use crate::relaxation::{Relaxation, Repaired};
 use lin_form::Literal;
-use std::num::{nearest_i64_to_f64, saturating_f64_to_i64};
+use std::num::saturating_f64_to_i64;
 
-/// A guess for the literals on a box.
-pub(crate) fn guess(literals: &[Literal], part: &Part) -> Hint {
+/// A guess for the literals on a box, with a split that tightens a bound if one is wanted.
+pub(crate) fn guess(literals: &[Literal], part: &Part, wants_trim: bool) -> Hint {
     let mut hint = Hint {
         sum: Few::none(),
         point: [0; 6],
         trim: None,
         variable: widest(part),
-        upper_first: false,
     };
     let mut relaxation = Relaxation::of(literals, part);
     match relaxation.repair() {
         Repaired::Stuck(row) => hint.sum = relaxation.sum_of(row),
         Repaired::Feasible => match dive(&mut relaxation, part, true) {
             Some(point) => hint.point = point,
-            None => look_closer(literals, part, &mut hint),
+            None => look_closer(&mut relaxation, part, wants_trim, &mut hint),
         },
         Repaired::Unknown => {}
     }
@@ -26,47 +25,57 @@ pub(crate) fn guess(literals: &[Literal], part: &Part) -> Hint {
 }
 
 /// Guesses a point in the middle, and else a split.
-fn look_closer(literals: &[Literal], part: &Part, hint: &mut Hint) {
-    let mut relaxation = Relaxation::of(literals, part);
+fn look_closer(relaxation: &mut Relaxation, part: &Part, wants_trim: bool, hint: &mut Hint) {
+    relaxation.set_ranges(part);
     if let Repaired::Feasible = relaxation.repair() {
-        hint.trim = tightest(&mut relaxation, part);
-        if let Some(point) = dive(&mut relaxation, part, false) {
+        let mut widest = -1.0;
+        let mut most = if wants_trim { 0.25 } else { 2.0 };
+        for variable in 0..part.inputs() {
+            let (least, greatest) = look_along(relaxation, variable, &mut most, hint);
+            if greatest - least > widest {
+                widest = greatest - least;
+                hint.variable = variable;
+            }
+        }
+        if let Some(point) = dive(relaxation, part, false) {
             hint.point = point;
         }
     }
 }
 
-/// The split that tightens a bound most, as a share of its range.
-fn tightest(relaxation: &mut Relaxation, part: &Part) -> Option<Trim> {
-    let mut found = None;
-    let mut most = 0.25;
-    for (variable, range) in part.as_slice().iter().enumerate() {
-        let low = nearest_i64_to_f64(range.0);
-        let high = nearest_i64_to_f64(range.1);
-        relaxation.move_to_end(variable, false);
-        let least = ceiling(relaxation.number(variable) - 1e-6);
-        if least - low > most * (high - low) {
-            most = (least - low) / (high - low);
-            found = Some(Trim {
-                variable,
-                at: saturating_f64_to_i64(least - 1.0),
-                from_below: true,
-                sum: relaxation.sum_at(variable),
-            });
-        }
-        relaxation.move_to_end(variable, true);
-        let greatest = floor(relaxation.number(variable) + 1e-6);
-        if high - greatest > most * (high - low) {
-            most = (high - greatest) / (high - low);
-            found = Some(Trim {
-                variable,
-                at: saturating_f64_to_i64(greatest),
-                from_below: false,
-                sum: relaxation.sum_at(variable),
-            });
-        }
+/// The least and the greatest whole number of a variable in the relaxation. Where one of them tightens a bound by more
+/// than the given share of the range, the split is kept and the share raised.
+fn look_along(
+    relaxation: &mut Relaxation,
+    variable: usize,
+    most: &mut f64,
+    hint: &mut Hint,
+) -> (f64, f64) {
+    relaxation.move_to_end(variable, false);
+    let least = ceiling(relaxation.number(variable) - 1e-6);
+    let low = relaxation.lower(variable);
+    let width = relaxation.upper(variable) - low;
+    if least - low > *most * width {
+        *most = (least - low) / width;
+        hint.trim = Some(Trim {
+            variable,
+            at: saturating_f64_to_i64(least - 1.0),
+            from_below: true,
+            sum: relaxation.sum_at(variable),
+        });
     }
-    found
+    relaxation.move_to_end(variable, true);
+    let greatest = floor(relaxation.number(variable) + 1e-6);
+    if low + width - greatest > *most * width {
+        *most = (low + width - greatest) / width;
+        hint.trim = Some(Trim {
+            variable,
+            at: saturating_f64_to_i64(greatest),
+            from_below: false,
+            sum: relaxation.sum_at(variable),
+        });
+    }
+    (least, greatest)
 }
 
 /// Fixes each variable at a whole number, one after the other, the least first or one in the middle.

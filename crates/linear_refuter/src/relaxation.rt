@@ -54,19 +54,26 @@ impl Relaxation {
             rows: literals.len().min(256),
             columns: part.inputs(),
         };
-        for (variable, range) in part.as_slice().iter().enumerate() {
-            relaxation.set_range(
-                variable,
-                nearest_i64_to_f64(range.0),
-                nearest_i64_to_f64(range.1),
-            );
-            relaxation.resting[variable % 8] = variable;
-            relaxation.rest[variable % 8] = nearest_i64_to_f64(range.0);
+        relaxation.set_ranges(part);
+        for variable in 0..8 {
+            relaxation.resting[variable] = variable;
+            relaxation.rest[variable] = relaxation.low[variable];
         }
         for (row, literal) in literals.iter().enumerate() {
             relaxation.set_row(row, literal);
         }
         relaxation
+    }
+
+    /// Gives the inputs the ranges of the box.
+    pub(crate) fn set_ranges(&mut self, part: &Part) {
+        for (variable, range) in part.as_slice().iter().enumerate() {
+            self.set_range(
+                variable,
+                nearest_i64_to_f64(range.0),
+                nearest_i64_to_f64(range.1),
+            );
+        }
     }
 
     fn set_range(&mut self, variable: usize, low: f64, high: f64) {
@@ -99,7 +106,7 @@ impl Relaxation {
     }
 
     /// The least and the greatest value of a variable.
-    fn lower(&self, variable: usize) -> f64 {
+    pub(crate) fn lower(&self, variable: usize) -> f64 {
         if variable < 8 {
             self.low[variable]
         } else {
@@ -107,7 +114,7 @@ impl Relaxation {
         }
     }
 
-    fn upper(&self, variable: usize) -> f64 {
+    pub(crate) fn upper(&self, variable: usize) -> f64 {
         if variable < 8 {
             self.high[variable]
         } else {
