@@ -28,12 +28,12 @@ pub(crate) fn guess(literals: &[Literal], part: &Part, wants_trim: bool) -> Hint
 fn look_closer(relaxation: &mut Relaxation, part: &Part, wants_trim: bool, hint: &mut Hint) {
     relaxation.set_ranges(part);
     if let Repaired::Feasible = relaxation.repair() {
-        let mut widest = -1.0;
+        let mut thinnest = 1e300;
         let mut most = if wants_trim { 0.25 } else { 2.0 };
         for variable in 0..part.inputs() {
             let (least, greatest) = look_along(relaxation, variable, &mut most, hint);
-            if greatest - least > widest {
-                widest = greatest - least;
+            if least < greatest && greatest - least < thinnest {
+                thinnest = greatest - least;
                 hint.variable = variable;
             }
         }
