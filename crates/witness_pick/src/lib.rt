@@ -9,6 +9,8 @@ ghost use Rattle.witness_pick.specs.Least.{IsPick};
 mod making;
 mod narrowing;
 #[cfg(test)]
+mod search_tests;
+#[cfg(test)]
 mod tests;
 
 use lin_form::{Bounds, Literal, Vector};
