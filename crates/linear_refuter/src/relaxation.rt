@@ -254,29 +254,15 @@ impl Relaxation {
     fn advance(&mut self, column: usize, up: bool) {
         let variable = self.resting[column % 8];
         let at = self.rest[column % 8];
-        let mut most = if up {
+        let own = if up {
             self.upper(variable) - at
         } else {
             at - self.lower(variable)
         };
-        let mut first = None;
-        let mut strongest = 0.0;
-        for row in 0..self.rows {
-            let factor = self.cell(row, column);
-            if magnitude(factor) > SMALL {
-                let room = self.room(row, (factor > 0.0) == up) / magnitude(factor);
-                if room < most - SMALL || (room < most + SMALL && magnitude(factor) > strongest) {
-                    most = if room < most { room } else { most };
-                    strongest = magnitude(factor);
-                    first = Some(row);
-                }
-            }
-        }
-        match first {
+        match self.first_limit(column, up, own) {
             Some(row) => {
-                let rising = (self.cell(row, column) > 0.0) == up;
                 let limited = self.basic[row % 256];
-                let target = if rising {
+                let target = if (self.cell(row, column) > 0.0) == up {
                     self.upper(limited)
                 } else {
                     self.lower(limited)
@@ -284,9 +270,28 @@ impl Relaxation {
                 self.pivot(row, column, target);
             }
             None => {
-                self.rest[column % 8] = if up { at + most } else { at - most };
+                self.rest[column % 8] = if up { at + own } else { at - own };
             }
         }
+    }
+
+    /// The row whose variable reaches a bound first where the variable of a column moves, if before this distance.
+    fn first_limit(&self, column: usize, up: bool, distance: f64) -> Option<usize> {
+        let mut least = distance;
+        let mut strongest = 0.0;
+        let mut found = None;
+        for row in 0..self.rows {
+            let factor = magnitude(self.cell(row, column));
+            if factor > SMALL {
+                let room = self.room(row, (self.cell(row, column) > 0.0) == up) / factor;
+                if room < least - SMALL || (room < least + SMALL && factor > strongest) {
+                    least = if room < least { room } else { least };
+                    strongest = factor;
+                    found = Some(row);
+                }
+            }
+        }
+        found
     }
 
     /// How far the variable of a row can move up or down.
