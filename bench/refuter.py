@@ -104,11 +104,13 @@ CRATES = {"lin_form": "smallvec thiserror", "linear_refuter": "lin_form", "witne
 GUESS = "crates/linear_refuter/src/guess.rt"
 CLOSER = "None => look_closer(&mut relaxation, part, wants_trim, &mut hint),"
 SHARE = "let mut most = if wants_trim { 0.25 } else { 2.0 };"
+SMALL = "const FEW_VECTORS: f64 = 100.0;"
 THINNEST = "if least < greatest && greatest - least < thinnest {"
 
 # name, and the edits of what is guessed
 RULES = [
     ("as built", []),
+    ("the relaxation on small boxes too", [(SMALL, SMALL.replace("100.0", "0.0"))]),
     ("no tightening", [(SHARE, SHARE.replace("0.25", "2.0"))]),
     ("widest in the relaxation", [(THINNEST, "if thinnest > 1e299 || greatest - least > thinnest {")]),
     ("first in order", [(THINNEST, "if least < greatest && thinnest > 1e299 {")]),

@@ -2,7 +2,10 @@ use crate::Part;
 use crate::hint::{Few, Hint, Trim, ceiling, floor, round};
 use crate::relaxation::{Relaxation, Repaired};
 use lin_form::Literal;
-use std::num::saturating_f64_to_i64;
+use std::num::{nearest_i64_to_f64, saturating_f64_to_i64};
+
+/// A box with fewer vectors is halved without a look at the relaxation, which costs more than some halvings.
+const FEW_VECTORS: f64 = 100.0;
 
 /// A guess for the literals on a box, with a split that tightens a bound if one is wanted.
 pub(crate) fn guess(literals: &[Literal], part: &Part, wants_trim: bool) -> Hint {
@@ -12,6 +15,10 @@ pub(crate) fn guess(literals: &[Literal], part: &Part, wants_trim: bool) -> Hint
         trim: None,
         variable: widest(part),
     };
+    if vectors(part) < FEW_VECTORS {
+        hint.point = middles(part);
+        return hint;
+    }
     let mut relaxation = Relaxation::of(literals, part);
     match relaxation.repair() {
         Repaired::Stuck(row) => hint.sum = relaxation.sum_of(row),
@@ -110,4 +117,22 @@ fn widest(part: &Part) -> usize {
         }
     }
     found
+}
+
+/// The number of vectors of a box.
+fn vectors(part: &Part) -> f64 {
+    let mut product = 1.0;
+    for (low, high) in part.as_slice() {
+        product = product * nearest_i64_to_f64(high.wrapping_sub(*low).wrapping_add(1));
+    }
+    product
+}
+
+/// A vector in the middle of a box.
+fn middles(part: &Part) -> [i64; 6] {
+    let mut point = [0; 6];
+    for (variable, (low, high)) in part.as_slice().iter().enumerate() {
+        point[variable % 6] = low.wrapping_add(high.wrapping_sub(*low) / 2);
+    }
+    point
 }
