@@ -1,5 +1,5 @@
 -- What every chart keeps.
-use Rattle.std.specs.Prelude.{◌≡◌, ℕ, ◌+◌, ◌*◌, ◌<◌, ◌≤◌, ℤ, pos, ◌-ℤ◌, ◌≤ℤ◌, Bool, true, false, nat_lt, List, [], ◌∷◌, ◌++◌, length, drop, map}
+use Rattle.std.specs.Prelude.{◌≡◌, ℕ, ◌+◌, ◌*◌, ◌<◌, ◌≤◌, ℤ, ◌-ℤ◌, ◌≤ℤ◌, Bool, true, false, nat_lt, List, [], ◌∷◌, ◌++◌, length, drop, map}
 use Rattle.std.specs.Prelude.{unsigned_abs, AllPairs, Contains, ◌≢◌}
 use Rattle.std.specs.List.{All}
 use Rattle.std.specs.Option.{option_map_or, ForSome}
@@ -8,6 +8,7 @@ use Rattle.lin_form.specs.declared.form.Comparison.{Comparison}
 use Rattle.lin_form.specs.declared.form.Relation.TheVariants.{NotEqual}
 use Rattle.lin_form.specs.declared.signature.Signature.{Signature}
 use Rattle.lin_form.specs.Form.{IsModerate, size_of}
+pub use Rattle.lin_form.specs.Inequality.{AreZero}
 use Rattle.lin_form.specs.Range.{IsCount}
 use Rattle.lin_form.specs.Name.{reserved_words}
 use Rattle.chart_model.specs.declared.action.Action.{Action}
@@ -19,10 +20,6 @@ use Rattle.chart_model.specs.declared.state.State.{State}
 use Rattle.chart_model.specs.declared.transition.Transition.{Transition}
 use Rattle.chart_model.specs.Guard.{comparisons_of, depth_of_guard}
 use Rattle.chart_model.specs.States.{IsTree, has_children}
-
--- all numbers are 0
-abbrev pub AreZero : List ℤ → Type 0
-AreZero numbers = All (λ z. z ≡ pos 0) numbers
 
 -- a form over so many inputs and so many memories
 pub record IsFormOver (inputs memories : ℕ) (form : Form) : Type 0 where
