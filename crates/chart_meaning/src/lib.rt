@@ -2,6 +2,8 @@
 #![tactic(auto)]
 
 mod actions;
+#[cfg(test)]
+mod charts;
 mod config;
 mod firing;
 mod laws;

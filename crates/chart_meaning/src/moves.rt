@@ -117,9 +117,12 @@ fn go_to(chart: &Chart, ways: &[Path], transition: &Transition, route: &Route, c
     ensures taken { config.new ≡ go_to chart.now transition.now route.now.target config.old }
     ensures configuration { IsConfiguration chart.now config.new }
 {
-    exit_all(chart, route.exited.as_slice(), config);
-    run(chart, transition.effect.as_slice(), config);
-    enter_all(chart, route.entered.as_slice(), config);
+    let exited = route.exited.as_slice();
+    let effect = transition.effect.as_slice();
+    let entered = route.entered.as_slice();
+    exit_all(chart, exited, config);
+    run(chart, effect, config);
+    enter_all(chart, entered, config);
     enter_below(chart, ways, route.target, transition.history, config);
 }
 

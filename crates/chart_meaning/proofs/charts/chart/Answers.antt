@@ -1,13 +1,13 @@
 use Rattle.std.proofs.Common.{◌≡◌, ◌≤◌, ◌∷◌, [], rules, rules}
 use Rattle.std.specs.Prelude.{unsigned_abs}
 use Rattle.chart_meaning.proofs.SmallCharts.{IsChart-small}
-use Rattle.chart_meaning.proofs.tests.chart.Goals as goal
+use Rattle.chart_meaning.proofs.charts.chart.Goals as goal
 
 pub invariant_of-result : goal.invariant_of-result
 invariant_of-result g c =
     let small : unsigned_abs c.args.initial ≤ 1000 = search rules in
     let memories : c.in_ok-memories.memories ≡ c.memory.result ∷ [] = search rules in
-    let initial : c.from_slice-2.result ≡ c.args.initial ∷ [] = search rules in
+    let initial : c.from_slice-2.result ≡ c.args.initial ∷ c.args.initial ∷ [] = search rules in
     let m = c.memory.ensures in
     let s = c.in_ok-states.ensures in
     let moves = rw c.as_slice.ensures at c.in_ok-transitions.ensures.moves in

@@ -6,7 +6,7 @@ use Rattle.std.proofs.lemmas.List.{take_all}
 use Rattle.std.proofs.lemmas.List.Elements.{All-more}
 use Rattle.chart_model.specs.declared.state.State.{State}
 use Rattle.chart_model.specs.States.{is_start_child_of}
-use Rattle.chart_meaning.proofs.tests.have_starts.Goals as goal
+use Rattle.chart_meaning.proofs.charts.have_starts.Goals as goal
 
 pub loop-child-preserved : goal.loop-child-preserved
 loop-child-preserved c =
