@@ -139,6 +139,19 @@ fn round(plan: &ChartPlan, config: &Config, a: &Vector, b: &Vector, c: &Vector, 
     plan.step(&config, d).state
 }
 
+fn run(plan: &ChartPlan, rounds: u64, a: &Vector, b: &Vector, c: &Vector, d: &Vector) -> Config
+    requires a { IsInInputRanges plan.now.signature.inputs a.now }
+    requires b { IsInInputRanges plan.now.signature.inputs b.now }
+    requires c { IsInInputRanges plan.now.signature.inputs c.now }
+    requires d { IsInInputRanges plan.now.signature.inputs d.now }
+{
+    let mut config = plan.start();
+    for _ in 0..rounds {
+        config = round(plan, &config, a, b, c, d);
+    }
+    config
+}
+
 fn main(rt: HostRuntime) -> io::Result<()> {
     let mut args = env::args(&rt)?;
     let _program = args.next();
@@ -154,11 +167,8 @@ fn main(rt: HostRuntime) -> io::Result<()> {
     let b = one(&rt, alloc, &plan, 0, 50);
     let c = one(&rt, alloc, &plan, 51, 50);
     let d = one(&rt, alloc, &plan, 50, 50);
-    let mut config = plan.start();
     let start = Instant::now(&rt)?;
-    for _ in 0..rounds {
-        config = round(&plan, &config, &a, &b, &c, &d);
-    }
+    let config = run(&plan, rounds, &a, &b, &c, &d);
     let nanos = start.elapsed(&rt)?.as_nanos();
     let back = config == plan.start();
     println!(rt; "{nanos} {rounds} {back}")
@@ -166,10 +176,10 @@ fn main(rt: HostRuntime) -> io::Result<()> {
 """
 
 INVARIANTS = """use Rattle.chart_meaning.specs.IsConfiguration.{IsConfiguration}
-use Rattle.timing.proofs.main.Given as goal
+use Rattle.timing.proofs.run.Given as goal
 
 abbrev pub invariant-loop : goal.invariant-loop
-invariant-loop g l = IsConfiguration l.plan l.config
+invariant-loop l = IsConfiguration l.plan l.config
 """
 
 # kind, what the row shows
@@ -199,8 +209,8 @@ def main() -> None:
         here = top / "crates" / "timing"
         (here / "src").mkdir(parents=True)
         (here / "src" / "main.rt").write_text(PROGRAM)
-        (here / "proofs" / "main").mkdir(parents=True)
-        (here / "proofs" / "main" / "Invariants.antt").write_text(INVARIANTS)
+        (here / "proofs" / "run").mkdir(parents=True)
+        (here / "proofs" / "run" / "Invariants.antt").write_text(INVARIANTS)
         lines = [f"{name}: {below}" for name, below in CRATES.items()]
         lines.append("timing: chart_meaning chart_model lin_form")
         (top / "crates.txt").write_text("\n".join(lines) + "\n")

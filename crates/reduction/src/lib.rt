@@ -6,9 +6,11 @@ ghost use Rattle.fsm_core.specs.Machine.{IsMachine};
 ghost use Rattle.fsm_core.specs.Answers.{AllReached, IsReduced, JoinAlike, KeepAnswers};
 
 mod blocks;
+mod inverse;
 mod quotient;
 #[cfg(test)]
 mod tests;
+mod work_list;
 
 use blocks::stable_blocks;
 use fsm_core::Fsm;
