@@ -6,6 +6,7 @@ ghost use Rattle.fsm_core.specs.Machine.{IsMachine};
 ghost use Rattle.fsm_core.specs.Answers.{AllReached, IsReduced, JoinAlike, KeepAnswers};
 
 mod blocks;
+mod first_splits;
 mod inverse;
 mod quotient;
 #[cfg(test)]
@@ -28,7 +29,8 @@ pub struct Reduced {
 /// The reduced machine of a machine.
 ///
 /// Its letters and the list of its replies are those of the machine. Blocks of states are split by the answers
-/// to one letter and the blocks that it leads to, until no block is split (Moore 1956).
+/// to one letter and the blocks that it leads to, until no block is split (Moore 1956). A work list of blocks says
+/// which letters split (Hopcroft 1971).
 pub fn reduce(alloc: Global, fsm: &Fsm) -> Result<Reduced, AllocError>
     requires reached { AllReached fsm.now }
 

@@ -46,7 +46,8 @@ impl WorkList {
         let largest = largest_parts(alloc, old, new, sizes.as_slice())?;
         let mut waiting = vec![in alloc; false; new.len()]?;
         for (old, new) in old.iter().zip(new) {
-            let waits = is_true(self.waiting.as_slice(), *old) || largest.as_slice().get(*old) != Some(&Some(*new));
+            let waits = is_true(self.waiting.as_slice(), *old)
+                || largest.as_slice().get(*old) != Some(&Some(*new));
             if let Some(slot) = waiting.get_mut(*new) {
                 *slot = waits;
             }

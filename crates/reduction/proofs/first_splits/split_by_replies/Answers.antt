@@ -2,8 +2,8 @@ use Rattle.std.proofs.Common.{◌≡◌, ℕ, List, ap}
 use Rattle.fsm_core.specs.Machine.{Machine}
 use Rattle.reduction.specs.Blocks.{AreBlocks}
 use Rattle.reduction.specs.Quotient.{AreRepresentatives}
-use Rattle.reduction.proofs.blocks.split_by_replies.Goals as goal
-use Rattle.reduction.proofs.blocks.split_by_replies.Goals.{in-Some+in_ok-blocks+in_ok-representatives-2, in_default}
+use Rattle.reduction.proofs.first_splits.split_by_replies.Goals as goal
+use Rattle.reduction.proofs.first_splits.split_by_replies.Goals.{in-Some+in_ok-blocks+in_ok-representatives-2, in_default}
 
 same : (m : Machine) (blocks new representatives picked : List ℕ) → new ≡ blocks → picked ≡ representatives →
     AreBlocks m blocks × AreRepresentatives blocks representatives → AreBlocks m new × AreRepresentatives new picked

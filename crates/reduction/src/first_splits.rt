@@ -1,0 +1,96 @@
+//! The splits that are found before the rounds.
+ghost use Rattle.std.specs.Prelude.{◌<◌, ◌≤◌, length, IfSome, OnOk};
+ghost use Rattle.reduction.specs.Blocks.{AreBlocks};
+
+use crate::blocks::split;
+use crate::quotient::representatives_of;
+use crate::work_list::WorkList;
+use fsm_core::Fsm;
+use std::alloc::{AllocError, Global};
+
+/// Compares the replies of each state with those of the first of its block, and splits the blocks by the first letter
+/// on which they differ. Then the state is the first of its block.
+pub fn split_by_replies(alloc: Global, fsm: &Fsm, blocks: &mut Vec<usize>) -> Result<(), AllocError>
+    requires { AreBlocks fsm.now blocks.old.items }
+    ensures { OnOk result (AreBlocks fsm.now blocks.new.items) }
+{
+    let mut representatives = representatives_of(alloc, blocks.as_slice())?;
+    for state in 0..fsm.states() {
+        let representative = representatives[blocks[state]];
+        if let Some(letter) = first_other_reply(fsm, state, representative) {
+            *blocks = split(alloc, fsm, blocks.as_slice(), letter)?;
+            representatives = representatives_of(alloc, blocks.as_slice())?;
+        }
+    }
+    Ok(())
+}
+
+/// The first letter that two states answer by different replies.
+fn first_other_reply(fsm: &Fsm, state: usize, other: usize) -> Option<u16>
+    requires state { state < fsm.now.states }
+    requires other { other < fsm.now.states }
+    ensures { IfSome result (λ a. a < fsm.now.letters) }
+{
+    if state == other {
+        return None;
+    }
+    for letter in 0..fsm.letters() as u16 {
+        if fsm.step(state, letter).1 != fsm.step(other, letter).1 {
+            return Some(letter);
+        }
+    }
+    None
+}
+
+/// Splits the blocks by the letters that lead some but not all states of a block into one that waits, until none
+/// waits. Each block waits at most once as a whole and once as a part.
+///
+/// It finds nearly all that there is to split; what it leaves is seen by the rounds that come after it.
+pub fn split_by_sources(alloc: Global, fsm: &Fsm, blocks: &mut Vec<usize>) -> Result<(), AllocError>
+    requires { AreBlocks fsm.now blocks.old.items }
+    ensures { OnOk result (AreBlocks fsm.now blocks.new.items) }
+{
+    let mut list = WorkList::new(alloc, fsm, blocks.as_slice())?;
+    for _ in 0..2 * fsm.states() {
+        let Some(block) = list.take() else {
+            return Ok(());
+        };
+        let states = states_of(alloc, blocks.as_slice(), block)?;
+        split_by_block(alloc, fsm, states.as_slice(), &mut list, blocks)?;
+    }
+    Ok(())
+}
+
+/// Splits the blocks by the letters that lead some but not all states of a block to these states.
+fn split_by_block(
+    alloc: Global,
+    fsm: &Fsm,
+    states: &[u16],
+    list: &mut WorkList,
+    blocks: &mut Vec<usize>,
+) -> Result<(), AllocError>
+    requires { AreBlocks fsm.now blocks.old.items }
+    ensures { OnOk result (AreBlocks fsm.now blocks.new.items) }
+{
+    for letter in 0..fsm.letters() as u16 {
+        if list.does_split(blocks.as_slice(), letter, states) {
+            let finer = split(alloc, fsm, blocks.as_slice(), letter)?;
+            list.split(alloc, blocks.as_slice(), finer.as_slice())?;
+            *blocks = finer;
+        }
+    }
+    Ok(())
+}
+
+/// The states of a block.
+fn states_of(alloc: Global, blocks: &[usize], block: usize) -> Result<Vec<u16>, AllocError>
+    requires { length blocks.now ≤ 1024 }
+{
+    let mut states = Vec::new(alloc);
+    for (state, other) in blocks.iter().enumerate() {
+        if *other == block {
+            states.push(state as u16)?;
+        }
+    }
+    Ok(states)
+}
