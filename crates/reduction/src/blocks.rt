@@ -1,4 +1,4 @@
-ghost use Rattle.std.specs.Prelude.{◌≡◌, ℕ, ◌<◌, length, IfOk, IfNone, IfSome, MatchBool, sum};
+ghost use Rattle.std.specs.Prelude.{◌≡◌, ℕ, ◌<◌, length, IfOk, IfNone, IfSome, IsTrue, MatchBool, sum};
 ghost use Rattle.reduction.specs.Blocks.{AgreeOn, AreAlikeOn, AreBlocks, AreFiner, AreStable};
 
 use crate::first_splits::{split_by_replies, split_by_sources};
@@ -18,16 +18,32 @@ struct Key {
 
 /// The blocks of the states that answer alike. They are split until no letter splits a block.
 ///
-/// A work list finds the splits fast; that none is left is seen by a round that compares all rows.
+/// Where a few rounds do not get there, a work list finds the splits; that none is left is seen by a last round.
 pub fn stable_blocks(alloc: Global, fsm: &Fsm) -> Result<Vec<usize>, AllocError>
     ensures blocks { IfOk result (λ v. AreBlocks fsm.now v.items) }
     ensures stable { IfOk result (λ v. AreStable fsm.now v.items) }
 {
     let mut blocks = vec![in alloc; 0; fsm.states()]?;
-    split_by_replies(alloc, fsm, &mut blocks)?;
-    split_by_sources(alloc, fsm, &mut blocks)?;
-    while round(alloc, fsm, &mut blocks)? {}
+    if !few_rounds(alloc, fsm, &mut blocks)? {
+        split_by_replies(alloc, fsm, &mut blocks)?;
+        split_by_sources(alloc, fsm, &mut blocks)?;
+        while round(alloc, fsm, &mut blocks)? {}
+    }
     Ok(blocks)
+}
+
+/// Splits the blocks in a few rounds, and tells whether no letter splits a block then.
+fn few_rounds(alloc: Global, fsm: &Fsm, blocks: &mut Vec<usize>) -> Result<bool, AllocError>
+    requires { AreBlocks fsm.now blocks.old.items }
+    ensures blocks { IfOk result (λ _. AreBlocks fsm.now blocks.new.items) }
+    ensures stable { IfOk result (λ stable. IsTrue stable → AreStable fsm.now blocks.new.items) }
+{
+    for _ in 0..8 {
+        if !round(alloc, fsm, blocks)? {
+            return Ok(true);
+        }
+    }
+    Ok(false)
 }
 
 /// Splits the blocks by one letter.
