@@ -45,6 +45,8 @@ fn row(kind: &str, state: usize, letter: usize) -> (usize, usize) {
         "ring" => (turned, last),
         "fall" if state == 0 => (letter % 1024, 1),
         "fall" if letter == 4095 => (fallen, 0),
+        "falls" if state != 0 => (fallen, 0),
+        "falls" => (letter % 1024, 1),
         "turn-first" if letter == 0 => (turned, last),
         "turn-last" if letter == 4095 => (turned, last),
         "chain-up" if letter == state => (turned, last),
@@ -101,6 +103,7 @@ ROWS = [
     ("chain-up", "each state is left by its own letter, in order"),
     ("chain-down", "the same against the order"),
     ("fall", "the last letter leads each state to the one before it"),
+    ("falls", "each letter does so"),
 ]
 CRATES = {"lin_form": "smallvec thiserror", "fsm_core": "lin_form", "reduction": "fsm_core lin_form indexmap"}
 

@@ -152,25 +152,33 @@ fn run(plan: &ChartPlan, rounds: u64, a: &Vector, b: &Vector, c: &Vector, d: &Ve
     config
 }
 
+fn plan_of(rt: &impl Abort, alloc: Global, kind: &str) -> Result<ChartPlan, AllocError> {
+    if kind == "monitor" {
+        return ChartPlan::new(alloc, monitor(rt, alloc)?);
+    }
+    ChartPlan::new(alloc, large(rt, alloc, kind)?)
+}
+
+// Runs a plan, and tells whether it came back to its start.
+fn laps(rt: &impl Abort, alloc: Global, plan: &ChartPlan, rounds: u64) -> bool {
+    let a = one(rt, alloc, plan, 200, 50);
+    let b = one(rt, alloc, plan, 0, 50);
+    let c = one(rt, alloc, plan, 51, 50);
+    let d = one(rt, alloc, plan, 50, 50);
+    run(plan, rounds, &a, &b, &c, &d) == plan.start()
+}
+
 fn main(rt: HostRuntime) -> io::Result<()> {
     let mut args = env::args(&rt)?;
     let _program = args.next();
     let Some(kind) = args.next() else {
         return Ok(());
     };
-    let kind = kind.as_str();
-    let alloc = rt.alloc();
-    let chart = if kind == "monitor" { monitor(&rt, alloc)? } else { large(&rt, alloc, kind)? };
-    let rounds = if kind == "monitor" || kind == "ring" { 1000000 } else { 2000 };
-    let plan = ChartPlan::new(alloc, chart)?;
-    let a = one(&rt, alloc, &plan, 200, 50);
-    let b = one(&rt, alloc, &plan, 0, 50);
-    let c = one(&rt, alloc, &plan, 51, 50);
-    let d = one(&rt, alloc, &plan, 50, 50);
+    let rounds = if kind.as_str() == "monitor" { 1000000 } else { 2000 };
+    let plan = plan_of(&rt, rt.alloc(), kind.as_str())?;
     let start = Instant::now(&rt)?;
-    let config = run(&plan, rounds, &a, &b, &c, &d);
+    let back = laps(&rt, rt.alloc(), &plan, rounds);
     let nanos = start.elapsed(&rt)?.as_nanos();
-    let back = config == plan.start();
     println!(rt; "{nanos} {rounds} {back}")
 }
 """
