@@ -107,16 +107,41 @@ fn machines_by_hand(rt: HostRuntime) -> Result<(), Fail> {
     Ok(())
 }
 
-#[test]
-fn a_ring_that_differs_late(rt: HostRuntime) -> Result<(), Fail> {
-    let mut rows = Vec::new(rt.alloc());
-    for state in 1..1024 {
-        rows.push((state, 0))?;
+// A ring of 1,024 states against the order of their numbers, 0, 1, 1023, 1022 and so on, where 0 and one more state,
+// if it is above 2, answer by 1 and all others by 0.
+fn falling_ring(alloc: Global, more: usize) -> Result<Vec<(usize, usize)>, AllocError> {
+    let mut rows = Vec::new(alloc);
+    rows.push((1, 1))?;
+    rows.push((1023, 0))?;
+    rows.push((0, 0))?;
+    for next in 2..1023 {
+        let reply = if next + 1 == more { 1 } else { 0 };
+        rows.push((next, reply))?;
     }
-    rows.push((0, 1))?;
-    let fsm = machine(&rt, rt.alloc(), 1, rows.as_slice())?;
-    let reduced = reduce_and_compare(&rt, rt.alloc(), &fsm)?;
-    assert_eq!(rt; reduced.fsm.states(), 1024);
+    Ok(rows)
+}
+
+#[test]
+fn rings_that_differ_late(rt: HostRuntime) -> Result<(), Fail> {
+    let alloc = rt.alloc();
+    let mut rising = Vec::new(alloc);
+    for state in 1..1024 {
+        rising.push((state, 0))?;
+    }
+    rising.push((0, 1))?;
+    let falling = falling_ring(alloc, 0)?;
+    // The state 513 stands half way round.
+    let halves = falling_ring(alloc, 513)?;
+    let rings = [
+        (rising.as_slice(), 1024),
+        (falling.as_slice(), 1024),
+        (halves.as_slice(), 512),
+    ];
+    for (rows, want) in rings {
+        let fsm = machine(&rt, alloc, 1, rows)?;
+        let reduced = reduce_and_compare(&rt, alloc, &fsm)?;
+        assert_eq!(rt; reduced.fsm.states(), want);
+    }
     Ok(())
 }
 
