@@ -233,6 +233,7 @@ def main() -> None:
             for _ in range(5):
                 told = subprocess.run([program, kind], capture_output=True, text=True, check=True).stdout.split()
                 each = int(told[0]) / (4 * int(told[1]))
+                assert told[2] == "true"
                 least = each if least is None else min(least, each)
             print(f"| {text} | {least:,.0f} |")
 

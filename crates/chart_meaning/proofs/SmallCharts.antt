@@ -81,7 +81,7 @@ AreNames-made name limit apart free n few names e =
       free = λ k d h c.
           let a = get_or-map-range_with_len name 0 n k k d (omega (arith, h, size)) (omega arith) in
           free k (omega (arith, h, size, few)) (subst (Contains reserved_words) a c);
-})
+    })
 
 first_letter : (a b : ℕ) → ◌≡◌ {A = List ℕ} (a ∷ []) (b ∷ []) → a ≡ b
 first_letter a b e = cc
@@ -134,6 +134,6 @@ IsChart-small signature initial memory states transitions inputs outputs small m
 pub more_tests : (before after : List Comparison) (test : Comparison) (k : ℕ) → after ≡ before ++ test ∷ [] → All (λ (c : Comparison). IsFormOver 2 1 c.form) before → IsFormOver 2 1 test.form → length before ≤ k →
     All (λ (c : Comparison). IsFormOver 2 1 c.form) after × (length after ≤ k + 1)
 more_tests before after test k e all one few = rw e (
-      All-push (λ (c : Comparison). IsFormOver 2 1 c.form) before test all one,
-      let n = length_push before test in omega (arith, n, few),
-    )
+  All-push (λ (c : Comparison). IsFormOver 2 1 c.form) before test all one,
+  let n = length_push before test in omega (arith, n, few),
+)

@@ -144,12 +144,7 @@ const TREE: Case = Case {
     range: (0, 255, 0),
     states: &[
         (None, true, &[(N, 4, 1)], &[(N, 4, 2)]),
-        (
-            Some(0),
-            true,
-            &[(N, 4, 3), (O, 1, 0)],
-            &[(N, 4, 1)],
-        ),
+        (Some(0), true, &[(N, 4, 3), (O, 1, 0)], &[(N, 4, 1)]),
         (Some(0), false, &[(N, 4, 1)], &[]),
         (Some(2), true, &[(N, 4, 2), (O, 1, 0)], &[]),
         (Some(2), false, &[(N, 4, 3), (O, 1, 0)], &[]),
