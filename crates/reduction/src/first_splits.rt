@@ -43,9 +43,9 @@ fn first_other_reply(fsm: &Fsm, state: usize, other: usize) -> Option<u16>
 }
 
 /// Splits the blocks by the letters that lead some but not all states of a block into one that waits, until none
-/// waits. Each block waits at most once as a whole and once as a part.
+/// waits. There are fewer than twice as many blocks that wait as states: those at first, and one for each part more.
 ///
-/// It finds nearly all that there is to split; what it leaves is seen by the rounds that come after it.
+/// Whether it leaves a block that could be split is seen by the round that comes after it.
 pub fn split_by_sources(alloc: Global, fsm: &Fsm, blocks: &mut Vec<usize>) -> Result<(), AllocError>
     requires { AreBlocks fsm.now blocks.old.items }
     ensures { OnOk result (AreBlocks fsm.now blocks.new.items) }
