@@ -1,8 +1,7 @@
 -- What callers know of a chart's guards.
-use Rattle.std.proofs.Common.{◌≡◌, ℕ, List, [], ◌∷◌, ◌++◌, length}
+use Rattle.std.proofs.Common.{ℕ, List, [], ◌∷◌, ◌++◌}
 use Rattle.std.specs.List.{All}
 use Rattle.std.proofs.lemmas.List.Elements.{All-nil, All-cons, All-head, All-tail, All-weaker}
-use Rattle.lin_form.specs.declared.form.Comparison.{Comparison}
 use Rattle.chart_model.specs.declared.guard.Guard.{Guard, Test, Not', And', Or'}
 use Rattle.chart_model.specs.Guard.{IsReadable, IsReadableGuard, comparisons_of}
 use Rattle.chart_model.specs.Chart.{IsGuard, IsFormOver}

@@ -7,7 +7,7 @@ use Rattle.lin_form.specs.declared.form.Form.{Form}
 use Rattle.lin_form.specs.declared.form.Comparison.{Comparison}
 use Rattle.lin_form.specs.declared.form.Relation.TheVariants.{NotEqual}
 use Rattle.lin_form.specs.declared.signature.Signature.{Signature}
-use Rattle.lin_form.specs.Form.{IsModerate, size_of}
+use Rattle.lin_form.specs.Form.{IsModerate}
 pub use Rattle.lin_form.specs.Inequality.{AreZero}
 use Rattle.lin_form.specs.Range.{IsCount}
 use Rattle.lin_form.specs.Name.{reserved_words}

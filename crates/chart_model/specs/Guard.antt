@@ -1,6 +1,5 @@
 -- The truth of a guard, and the comparisons in it.
 use Rattle.std.specs.Prelude.{◌≡◌, ℕ, ◌+◌, max, ℤ, Bool, not, ◌&&◌, ◌||◌, List, [], ◌∷◌, ◌++◌, length}
-use Rattle.std.specs.List.{All}
 use Rattle.lin_form.specs.declared.form.Comparison.{Comparison}
 use Rattle.lin_form.specs.Form.{IsModerate, truth_of}
 use Rattle.chart_model.specs.declared.guard.Guard.{Guard, Test, Not', And', Or'}

@@ -1,5 +1,5 @@
 -- The tree of a chart's states: which states contain which.
-use Rattle.std.specs.Prelude.{◌≡◌, ◌<◌, length, ℕ, zero, suc, Bool, true, false, not, ◌&&◌, ◌==◌, List, Option, Some, None, is_none, option_and_then, slice_get, count_by}
+use Rattle.std.specs.Prelude.{◌≡◌, ◌<◌, length, ℕ, zero, suc, Bool, true, false, ◌&&◌, ◌==◌, List, Option, Some, is_none, option_and_then, slice_get, count_by}
 use Rattle.std.specs.Option.{option_map_or}
 use Rattle.std.specs.List.{list_any}
 use Rattle.chart_model.specs.declared.state.State.{State}
