@@ -1,15 +1,14 @@
 -- What the tests' charts keep.
-use Rattle.std.proofs.Common.{◌≡◌, ◌≢◌, ℕ, zero, suc, ◌+◌, ◌*◌, ◌/◌, ◌%◌, ◌<◌, ◌≤◌, Bool, true, List, [], ◌∷◌, ◌++◌, length, get_or, map, Option, None, Some, refl, ap, sym, subst, ◌∙◌, arith, ℤ}
-use Rattle.std.specs.Prelude.{slice_get, count_by, Contains, AllPairs, nat_le, unsigned_abs}
-use Rattle.std.specs.Option.{ForSome, option_map_or}
+use Rattle.std.proofs.Common.{◌≡◌, ℕ, ◌+◌, ◌*◌, ◌/◌, ◌%◌, ◌<◌, ◌≤◌, Bool, true, List, [], ◌∷◌, ◌++◌, length, get_or, map, Some, refl, ap, sym, subst, ◌∙◌, arith, ℤ}
+use Rattle.std.specs.Prelude.{slice_get, count_by, Contains, nat_le, unsigned_abs}
+use Rattle.std.specs.Option.{ForSome}
 use Rattle.std.specs.List.{All, list_all, range_with_len}
 use Rattle.std.proofs.lemmas.Bool.{false≢true, leb-true}
 use Rattle.std.proofs.lemmas.List.{length-map, length_push}
-use Rattle.std.proofs.lemmas.List.Elements.{All-nil, All-cons, All-push, All-append}
+use Rattle.std.proofs.lemmas.List.Elements.{All-nil, All-cons, All-push}
 use Rattle.std.proofs.lemmas.List.Folds.{Any-from_list_any}
 use Rattle.std.proofs.lemmas.List.FromFn.{get_or-map-range_with_len, length-map-range_with_len}
 use Rattle.std.proofs.lemmas.List.Sums.{AllPass-from_list_all, count_by-le-length}
-use Rattle.std.proofs.lemmas.Option.{option_and_then_some}
 use Rattle.lin_form.specs.Name.{reserved_words}
 use Rattle.lin_form.specs.declared.signature.Signature.{Signature}
 use Rattle.lin_form.specs.Range.{IsCount}
@@ -18,7 +17,7 @@ use Rattle.chart_model.specs.declared.state.State.{State}
 use Rattle.chart_model.specs.declared.transition.Transition.{Transition}
 use Rattle.lin_form.specs.declared.form.Comparison.{Comparison}
 use Rattle.chart_model.specs.Chart.{AreNames, IsAssumption, IsChart, IsFormOver, IsMemory, IsState, IsTransition, range_product, range_size}
-use Rattle.chart_model.specs.States.{IsTree, has_children, is_child_of, is_start_child_of, is_top_start, is_within_depth, parent_of}
+use Rattle.chart_model.specs.States.{IsTree, has_children, is_child_of, is_start_child_of, is_top_start, is_within_depth}
 use Rattle.chart_meaning.proofs.Climbing.{child_parent}
 
 abbrev pub AreParentsFirst : List State → Type 0
