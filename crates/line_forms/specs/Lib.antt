@@ -1,0 +1,6 @@
+pub mod Lexemes
+pub mod Trees
+pub mod Grammar
+pub mod Forms
+pub mod Views
+pub mod Limits

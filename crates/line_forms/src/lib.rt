@@ -1,0 +1,18 @@
+//! The lines of charts and words as what they say: the forms that their tokens derive from.
+#![tactic(auto)]
+
+mod condition;
+mod keyword;
+mod lexeme;
+mod line;
+mod statement;
+mod view;
+
+pub use condition::{Condition, GuardForm};
+pub use keyword::Keyword;
+pub use lexeme::Lexeme;
+pub use statement::{
+    ActionForm, ActionsForm, InputForm, MemoryForm, OnForm, OutputForm, Sighted, Signed,
+    SignedTerm, StateForm, Statement, Term, TestForm, WordForm,
+};
+pub use view::{see, see_numbers};
