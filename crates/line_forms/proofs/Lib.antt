@@ -1,0 +1,4 @@
+pub mod Compare
+pub mod Guards
+pub mod Ends
+pub mod Chains

@@ -2,10 +2,14 @@
 #![tactic(auto)]
 
 mod condition;
+mod error;
+mod guard;
 mod keyword;
 mod lexeme;
 mod line;
+mod lookup;
 mod statement;
+mod sum;
 mod view;
 
 pub use condition::{Condition, GuardForm};
