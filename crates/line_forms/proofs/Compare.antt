@@ -24,7 +24,7 @@ IsWider c d = (t : Lexeme) → c t ≡ true → d t ≡ true
 pub one_token : (ts : List Lexeme) (i : ℕ) (a b : Lexeme) → Has ts i a → Has ts i b → a ≡ b
 one_token ts i a b p q = cc
 
-widened : (c d : Lexeme → Bool) (ts : List Lexeme) (i j : ℕ) → IsWider c d → i ≡ j → Continues c ts i → Continues d ts j
+pub widened : (c d : Lexeme → Bool) (ts : List Lexeme) (i j : ℕ) → IsWider c d → i ≡ j → Continues c ts i → Continues d ts j
 widened c d ts i j wide e h = record { token = h.token; stands = subst (λ k. Has ts k h.token) e h.stands; goes = wide h.token h.goes }
 
 -- a lexeme that continues nothing stands there
@@ -141,12 +141,12 @@ one_tail ts i t u (x ∷ xs) [] p f q g =
 one_tail ts i t u (x ∷ xs) (y ∷ ys) p f q g =
     more_more (t ≡ u) _ in_term in_sum ts i (term_size t) (term_size u) _ _ (sign_of x.negated) (sign_of y.negated) f.0 (sign_not_in_term x.negated) g.0 (sign_not_in_term y.negated)
     (λ e.
-        let n : term_size t ≡ term_size u = ap term_size e in
-        let k = subst (λ m. AreTerms ts (i + m) (y ∷ ys)) (sym n) g in
-        let s : x.negated ≡ y.negated = same_sign x.negated y.negated (one_token ts (i + term_size t) (sign_of x.negated) (sign_of y.negated) f.0 k.0) in
-        carry ((x.term ≡ y.term) × (xs ≡ ys)) _ in_sum in_sum ts i (i + term_size t + 1) (term_size x.term + terms_size xs) (term_size y.term + terms_size ys) _ _
-        (λ r. (e, λ j. same_signed x y s r.0 j ∷ r.1 j)) (self_wider in_sum) (omega arith) (omega (arith, n))
-        (one_tail ts (i + term_size t + 1) x.term y.term xs ys f.1 f.2 k.1 k.2))
+    let n : term_size t ≡ term_size u = ap term_size e in
+    let k = subst (λ m. AreTerms ts (i + m) (y ∷ ys)) (sym n) g in
+    let s : x.negated ≡ y.negated = same_sign x.negated y.negated (one_token ts (i + term_size t) (sign_of x.negated) (sign_of y.negated) f.0 k.0) in
+    carry ((x.term ≡ y.term) × (xs ≡ ys)) _ in_sum in_sum ts i (i + term_size t + 1) (term_size x.term + terms_size xs) (term_size y.term + terms_size ys) _ _
+    (λ r. (e, λ j. same_signed x y s r.0 j ∷ r.1 j)) (self_wider in_sum) (omega arith) (omega (arith, n))
+    (one_tail ts (i + term_size t + 1) x.term y.term xs ys f.1 f.2 k.1 k.2))
     (one_term ts i t u p q)
 
 pub no_minus_term : (ts : List Lexeme) (i : ℕ) (t : Term) → IsTerm ts i t → Has ts i lexeme.Minus → ⊥
@@ -181,12 +181,12 @@ pub one_test : (ts : List Lexeme) (i : ℕ) (x y : TestForm) → IsTest ts i x �
 one_test ts i x y p q =
     more_more (x.left ≡ y.left) _ in_sum in_sum ts i (sum_size x.left) (sum_size y.left) _ _ (lexeme.Compare x.relation) (lexeme.Compare y.relation) p.1 refl q.1 refl
     (λ e.
-        let n : sum_size x.left ≡ sum_size y.left = ap sum_size e in
-        let h = p.1 in
-        let k = subst (λ m. Has ts (i + m) (lexeme.Compare y.relation)) (sym n) q.1 in
-        let o : x.relation ≡ y.relation = cc in
-        carry (x.right ≡ y.right) _ in_sum in_sum ts i (i + sum_size x.left + 1) (sum_size x.right) (sum_size y.right) _ _ (λ r. same_test x y e o r) (self_wider in_sum) (omega arith) (omega (arith, n))
-        (one_sum ts (i + sum_size x.left + 1) x.right y.right p.2 (subst (λ m. IsSum ts (i + m + 1) y.right) (sym n) q.2)))
+    let n : sum_size x.left ≡ sum_size y.left = ap sum_size e in
+    let h = p.1 in
+    let k = subst (λ m. Has ts (i + m) (lexeme.Compare y.relation)) (sym n) q.1 in
+    let o : x.relation ≡ y.relation = cc in
+    carry (x.right ≡ y.right) _ in_sum in_sum ts i (i + sum_size x.left + 1) (sum_size x.right) (sum_size y.right) _ _ (λ r. same_test x y e o r) (self_wider in_sum) (omega arith) (omega (arith, n))
+    (one_sum ts (i + sum_size x.left + 1) x.right y.right p.2 (subst (λ m. IsSum ts (i + m + 1) y.right) (sym n) q.2)))
     (one_sum ts i x.left y.left p.0 q.0)
 
 same_action : (x y : ActionForm) → x.name ≡ y.name → x.sum ≡ y.sum → x ≡ y

@@ -58,9 +58,9 @@ mutual
   one_guard ts i (or c g) (or d h) p q =
       more_more (c ≡ d) _ in_conj in_guard ts i (conj_size c) (conj_size d) _ _ (lexeme.Reserved keyword.Or) (lexeme.Reserved keyword.Or) p.1 refl q.1 refl
       (λ e.
-          let n : conj_size c ≡ conj_size d = ap conj_size e in
-          carry (g ≡ h) _ in_guard in_guard ts i (i + conj_size c + 1) (guard_size g) (guard_size h) _ _ (λ f. λ j. or (e j) (f j)) (self_wider in_guard) (omega arith) (omega (arith, n))
-          (one_guard ts (i + conj_size c + 1) g h p.2 (subst (λ m. IsGuard ts (i + m + 1) h) (sym n) q.2)))
+      let n : conj_size c ≡ conj_size d = ap conj_size e in
+      carry (g ≡ h) _ in_guard in_guard ts i (i + conj_size c + 1) (guard_size g) (guard_size h) _ _ (λ f. λ j. or (e j) (f j)) (self_wider in_guard) (omega arith) (omega (arith, n))
+      (one_guard ts (i + conj_size c + 1) g h p.2 (subst (λ m. IsGuard ts (i + m + 1) h) (sym n) q.2)))
       (one_conj ts i c d p.0 q.0)
 
   pub one_conj : (ts : List Lexeme) (i : ℕ) (c d : Conj) → IsConj ts i c → IsConj ts i d → Compared (c ≡ d) in_conj ts i (conj_size c) (conj_size d)
@@ -70,9 +70,9 @@ mutual
   one_conj ts i (and u c) (and v d) p q =
       more_more (u ≡ v) _ in_sum in_conj ts i (unit_size u) (unit_size v) _ _ (lexeme.Reserved keyword.And) (lexeme.Reserved keyword.And) p.1 refl q.1 refl
       (λ e.
-          let n : unit_size u ≡ unit_size v = ap unit_size e in
-          carry (c ≡ d) _ in_conj in_conj ts i (i + unit_size u + 1) (conj_size c) (conj_size d) _ _ (λ f. λ j. and (e j) (f j)) (self_wider in_conj) (omega arith) (omega (arith, n))
-          (one_conj ts (i + unit_size u + 1) c d p.2 (subst (λ m. IsConj ts (i + m + 1) d) (sym n) q.2)))
+      let n : unit_size u ≡ unit_size v = ap unit_size e in
+      carry (c ≡ d) _ in_conj in_conj ts i (i + unit_size u + 1) (conj_size c) (conj_size d) _ _ (λ f. λ j. and (e j) (f j)) (self_wider in_conj) (omega arith) (omega (arith, n))
+      (one_conj ts (i + unit_size u + 1) c d p.2 (subst (λ m. IsConj ts (i + m + 1) d) (sym n) q.2)))
       (one_unit ts i u v p.0 q.0)
 
   pub one_unit : (ts : List Lexeme) (i : ℕ) (u v : Unit') → IsUnit ts i u → IsUnit ts i v → Compared (u ≡ v) in_sum ts i (unit_size u) (unit_size v)

@@ -3,11 +3,13 @@
 
 mod condition;
 mod error;
+mod form;
 mod guard;
 mod keyword;
 mod lexeme;
 mod line;
 mod lookup;
+mod part;
 mod statement;
 mod sum;
 mod view;

@@ -1,22 +1,71 @@
-ghost use Rattle.std.specs.Prelude.{◌≡◌, ℕ, List, Option, Result, IfOk};
+ghost use Rattle.std.specs.Prelude.{◌≡◌, ◌≤◌, ℕ, List, length, Option, Result, IfOk};
 ghost use Rattle.std.specs.Option.{ForSome};
 ghost use Rattle.line_tokens.specs.declared.error.TokenError.{TokenError};
 ghost use Rattle.line_forms.specs.declared.statement.Sighted.{Sighted};
 ghost use Rattle.line_forms.specs.declared.statement.WordForm.{WordForm};
-ghost use Rattle.line_forms.specs.Forms.{IsSighted, IsWordForm};
+ghost use Rattle.line_forms.specs.Forms.{IsSighted, AreNumbers, IsWordForm};
 ghost use Rattle.line_forms.specs.Views.{IsView, Views};
 ghost use Rattle.line_forms.specs.Limits.{IsSmallSight, AreSmallNumbers};
+ghost use Rattle.line_forms.specs.Longest.{Derives};
 
-use crate::statement::{Sighted, WordForm};
-use line_tokens::TokenError;
-use std::alloc::Global;
+use crate::error::FormError;
+use crate::form::sight;
+use crate::line::Line;
+use crate::lookup::{signed_at, signed_size};
+use crate::statement::{Sighted, Signed, WordForm};
+use line_tokens::{TokenError, content, line_tokens};
+use sqlite_items::Items;
+use std::alloc::{AllocError, Global};
 
 /// What a line of a chart says, or None where it is blank.
 pub fn see(alloc: Global, line: &[u8]) -> Result<Option<Sighted>, TokenError>
     ensures view { Views IsSighted line.now result }
     ensures small { IfOk result (λ seen. ForSome seen IsSmallSight) }
 {
-    Err(TokenError::Memory)
+    let tokens = match line_tokens(alloc, line) {
+        Ok(tokens) => tokens,
+        Err(error) => return Err(error),
+    };
+    let line = Line::new(content(line), tokens.as_slice());
+    if line.len() == 0 {
+        return Ok(None);
+    }
+    match sight(alloc, &line) {
+        Ok(sighted) => Ok(Some(sighted)),
+        Err(_) => Err(TokenError::Memory),
+    }
+}
+
+/// The numbers that make up a line.
+fn numbers(alloc: Global, line: &Line) -> Result<Items<Signed>, FormError>
+    requires { length line.now ≤ 1024 }
+    ensures { Derives (AreNumbers line.now 0) result }
+{
+    let mut numbers = Items::new(alloc);
+    let mut at = 0;
+    'numbers: while at < line.len() {
+        let Some(number) = signed_at(line, at) else {
+            return Err(FormError::Form);
+        };
+        if numbers.push(number).is_err() {
+            return Err(FormError::Memory);
+        }
+        at += signed_size(number);
+    }
+    Ok(numbers)
+}
+
+fn word_form(alloc: Global, line: &Line) -> Result<WordForm, AllocError>
+    requires { length line.now ≤ 1024 }
+    ensures { IfOk result (IsWordForm line.now) }
+{
+    match numbers(alloc, line) {
+        Ok(numbers) => Ok(WordForm {
+            numbers: Some(numbers),
+        }),
+        Err(FormError::Form) => Ok(WordForm { numbers: None }),
+        Err(FormError::Memory) => Err(AllocError),
+    }
 }
 
 /// The numbers of a line of a word, or None where it is blank.
@@ -24,5 +73,16 @@ pub fn see_numbers(alloc: Global, line: &[u8]) -> Result<Option<WordForm>, Token
     ensures view { Views IsWordForm line.now result }
     ensures small { IfOk result (λ seen. ForSome seen AreSmallNumbers) }
 {
-    Err(TokenError::Memory)
+    let tokens = match line_tokens(alloc, line) {
+        Ok(tokens) => tokens,
+        Err(error) => return Err(error),
+    };
+    let line = Line::new(content(line), tokens.as_slice());
+    if line.len() == 0 {
+        return Ok(None);
+    }
+    match word_form(alloc, &line) {
+        Ok(form) => Ok(Some(form)),
+        Err(_) => Err(TokenError::Memory),
+    }
 }
