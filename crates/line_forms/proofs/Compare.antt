@@ -1,6 +1,5 @@
 -- Two derivations at one place are the same, or the shorter one stands before a lexeme that may continue it.
-use Rattle.std.proofs.Common.{◌≡◌, ℕ, ◌+◌, ◌<◌, ◌≤◌, Bool, true, false, List, [], ◌∷◌, length, Option, Some, None, refl, sym, ◌∙◌, ap, subst, arith}
-use Rattle.std.specs.Prelude.{slice_get}
+use Rattle.std.proofs.Common.{◌≡◌, ℕ, ◌+◌, ◌<◌, Bool, true, false, List, [], ◌∷◌, refl, sym, ap, subst, arith}
 use Rattle.line_forms.specs.declared.keyword.Keyword.TheVariants as keyword
 use Rattle.line_forms.specs.declared.lexeme.Lexeme.{Lexeme}
 use Rattle.line_forms.specs.declared.lexeme.Lexeme.TheVariants as lexeme
@@ -9,8 +8,8 @@ use Rattle.line_forms.specs.declared.statement.Term.TheVariants as term
 use Rattle.line_forms.specs.declared.statement.SignedTerm.{SignedTerm}
 use Rattle.line_forms.specs.declared.statement.TestForm.{TestForm}
 use Rattle.line_forms.specs.declared.statement.ActionForm.{ActionForm}
-use Rattle.line_forms.specs.Grammar.{Has, IsTerm, term_size, sign_of, AreTerms, terms_size, IsFirst, first_size, IsSum, sum_size, IsTest, test_size, Guard, Conj, Unit', conj, or, unit, and, not, paren, test, IsGuard, IsConj, IsUnit, guard_size, conj_size, unit_size, IsAction, action_size}
-use Rattle.line_forms.specs.Longest.{in_term, in_sum, in_conj, in_guard, Continues, Stops}
+use Rattle.line_forms.specs.Grammar.{Has, IsTerm, term_size, sign_of, AreTerms, terms_size, IsFirst, first_size, IsSum, sum_size, IsTest, test_size, IsAction, action_size}
+use Rattle.line_forms.specs.Longest.{in_term, in_sum, in_conj, in_guard, Continues}
 
 pub data Compared (E : Type 0) (class : Lexeme → Bool) (ts : List Lexeme) (i m n : ℕ) : Type 0 where
   same : E → Compared E class ts i m n

@@ -7,13 +7,12 @@ use Rattle.lin_form.specs.declared.form.Relation.TheVariants as relation
 use Rattle.line_forms.specs.declared.keyword.Keyword.TheVariants as keyword
 use Rattle.line_forms.specs.declared.lexeme.Lexeme.{Lexeme}
 use Rattle.line_forms.specs.declared.lexeme.Lexeme.TheVariants.{Reserved, Named, Compare, Comma}
-use Rattle.line_forms.specs.declared.statement.SignedTerm.{SignedTerm}
 use Rattle.line_forms.specs.declared.statement.ActionForm.{ActionForm}
 use Rattle.line_forms.specs.declared.error.FormError.{FormError}
 use Rattle.line_forms.specs.declared.error.FormError.TheVariants.{Form, Memory}
 use Rattle.line_forms.specs.Grammar.{Has, IsSum, sum_size, IsAction, action_size, IsEach, each_size}
-use Rattle.line_forms.specs.Longest.{in_sum, Continues, Stops, IsLongest, IsOnly, GivesLongest, GivesOnly}
-use Rattle.line_forms.proofs.Compare.{Compared, one_token, one_action}
+use Rattle.line_forms.specs.Longest.{in_sum, Stops, IsLongest, IsOnly, GivesLongest, GivesOnly}
+use Rattle.line_forms.proofs.Compare.{one_action}
 use Rattle.line_forms.proofs.Ends.{settled, stopped}
 
 -- the line ends there

@@ -4,3 +4,7 @@ pub mod Ends
 pub mod Chains
 pub mod Effects
 pub mod Parts
+pub mod Sound
+pub mod Numerals
+pub mod Nots
+pub mod Small

@@ -1,21 +1,19 @@
 -- The parts of a line that begins with `on`, read one after another.
-use Rattle.std.proofs.Common.{◌≡◌, ℕ, ◌+◌, ◌<◌, Bool, true, false, List, [], ◌∷◌, length, Option, Some, None, refl, sym, ◌∙◌, ap, subst, arith}
-use Rattle.std.specs.Prelude.{Err, option_map}
+use Rattle.std.proofs.Common.{◌≡◌, ℕ, ◌+◌, Bool, true, false, List, [], ◌∷◌, length, Option, Some, None, refl, sym, ◌∙◌, ap, subst, arith}
+use Rattle.std.specs.Prelude.{Err}
 use Rattle.line_forms.specs.declared.keyword.Keyword.{Keyword}
 use Rattle.line_forms.specs.declared.keyword.Keyword.TheVariants as keyword
 use Rattle.line_forms.specs.declared.lexeme.Lexeme.{Lexeme}
-use Rattle.line_forms.specs.declared.lexeme.Lexeme.TheVariants.{Reserved, Named}
+use Rattle.line_forms.specs.declared.lexeme.Lexeme.TheVariants.{Reserved}
 use Rattle.line_forms.specs.declared.statement.TestForm.{TestForm}
 use Rattle.line_forms.specs.declared.statement.ActionForm.{ActionForm}
-use Rattle.line_forms.specs.declared.statement.ActionsForm.{ActionsForm}
 use Rattle.line_forms.specs.declared.statement.OnForm.{OnForm}
 use Rattle.line_forms.specs.declared.error.FormError.{FormError}
 use Rattle.line_forms.specs.declared.error.FormError.TheVariants.{Form, Memory}
-use Rattle.line_forms.specs.Trees.{Tree}
-use Rattle.line_forms.specs.Grammar.{Has, IsTest, test_size, Guard, IsGuard, guard_size, guard_tree, IsEach, each_size}
-use Rattle.line_forms.specs.Forms.{IsNamed, named_size, IsMarked, marked_size, IsWhen, when_size, IsHistory, IsOnForm, IsAssumeForm, IsActionsForm}
-use Rattle.line_forms.specs.Longest.{in_sum, in_guard, Continues, Stops, IsLongest, IsOnly, GivesLongest, GivesOnly, GivesWhen, Derives}
-use Rattle.line_forms.proofs.Compare.{Compared, all_wider, widened, one_test}
+use Rattle.line_forms.specs.Grammar.{Has, IsTest, test_size, Guard, IsGuard, guard_size, IsEach, each_size}
+use Rattle.line_forms.specs.Forms.{IsNamed, named_size, IsMarked, marked_size, IsWhen, when_size, IsHistory, IsOnForm, IsAssumeForm}
+use Rattle.line_forms.specs.Longest.{in_sum, in_guard, Stops, IsLongest, IsOnly, GivesOnly, GivesWhen, Derives}
+use Rattle.line_forms.proofs.Compare.{all_wider, widened, one_test}
 use Rattle.line_forms.proofs.Ends.{settled, stopped}
 use Rattle.line_forms.proofs.Chains.{guard_settled}
 use Rattle.line_forms.proofs.Effects.{at_end}
