@@ -8,3 +8,5 @@ pub mod Sound
 pub mod Numerals
 pub mod Nots
 pub mod Small
+pub mod Unique
+pub mod Seen

@@ -18,10 +18,10 @@ use Rattle.line_forms.proofs.Ends.{settled, stopped}
 use Rattle.line_forms.proofs.Chains.{guard_settled}
 use Rattle.line_forms.proofs.Effects.{at_end}
 
-narrower : (ts : List Lexeme) (i : ℕ) → Stops in_guard ts i → Stops in_sum ts i
+pub narrower : (ts : List Lexeme) (i : ℕ) → Stops in_guard ts i → Stops in_sum ts i
 narrower ts i stops = λ h. stops (widened in_sum in_guard ts i i all_wider refl h)
 
-moved : (class : Lexeme → Bool) (ts : List Lexeme) (i j : ℕ) → i ≡ j → Stops class ts i → Stops class ts j
+pub moved : (class : Lexeme → Bool) (ts : List Lexeme) (i j : ℕ) → i ≡ j → Stops class ts i → Stops class ts j
 moved class ts i j e h = subst (Stops class ts) e h
 
 -- a guard behind `when`

@@ -6,6 +6,7 @@ mod error;
 mod form;
 mod guard;
 mod keyword;
+mod laws;
 mod lexeme;
 mod line;
 mod lookup;
@@ -16,6 +17,7 @@ mod view;
 
 pub use condition::{Condition, GuardForm};
 pub use keyword::Keyword;
+pub use laws::{one_numbers, one_sight, some_numbers, some_sight};
 pub use lexeme::Lexeme;
 pub use statement::{
     ActionForm, ActionsForm, InputForm, MemoryForm, OnForm, OutputForm, Sighted, Signed,

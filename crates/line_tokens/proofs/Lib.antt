@@ -3,3 +3,4 @@ pub mod LineLemmas
 pub mod Scanning
 pub mod Numbers
 pub mod Reading
+pub mod Uniqueness

@@ -106,7 +106,7 @@ first_place line at k less t =
     }
 
 -- behind the first token stand the others
-first_only : (line : List ℕ) (at : ℕ) (p : Place) → IsFirst line at p → (ps : List Place) → HasPlaces line at ps → (rest : List Place) × (ps ≡ p ∷ rest) × HasPlaces line p.to rest
+pub first_only : (line : List ℕ) (at : ℕ) (p : Place) → IsFirst line at p → (ps : List Place) → HasPlaces line at ps → (rest : List Place) × (ps ≡ p ∷ rest) × HasPlaces line p.to rest
 first_only line at p f [] h = absurd (all_pass is_blank (p.from - at) (drop at line) h (starts_on line at p.from (p.to - p.from) f.after f.longest))
 first_only line at p f (q ∷ qs) h =
     let from : q.from ≡ p.from = token_from line at q.from (q.to - q.from) h.0 h.2 h.3 ∙ sym (token_from line at p.from (p.to - p.from) f.after f.blank f.longest) in

@@ -4,6 +4,7 @@
 
 mod check;
 mod error;
+mod laws;
 mod line;
 mod place;
 mod scan;
@@ -14,5 +15,6 @@ mod word;
 
 pub use check::line_tokens;
 pub use error::{TokenError, TokenLimit};
+pub use laws::one_tokenizing;
 pub use line::{content, next_line};
 pub use token::{Token, Word, is_spelled};
