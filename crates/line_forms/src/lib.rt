@@ -13,6 +13,8 @@ mod lookup;
 mod part;
 mod statement;
 mod sum;
+#[cfg(test)]
+mod tests;
 mod view;
 
 pub use condition::{Condition, GuardForm};
