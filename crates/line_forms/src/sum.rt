@@ -141,12 +141,10 @@ pub fn test_at(alloc: Global, line: &Line, at: usize) -> Result<(TestForm, usize
         Ok(found) => found,
         Err(error) => return Err(error),
     };
-    Ok((
-        TestForm {
-            left,
-            relation,
-            right,
-        },
-        end,
-    ))
+    let test = TestForm {
+        left,
+        relation,
+        right,
+    };
+    Ok((test, end))
 }
