@@ -5,7 +5,8 @@ use Rattle.std.proofs.lemmas.List.{get_or_append_left, get_or-append-add, length
 use Rattle.lin_form.specs.declared.form.Comparison.{Comparison}
 use Rattle.lin_form.specs.Form.{relates, sum_of_products, truth_of}
 use Rattle.lin_form.specs.Padded.{padded}
-use Rattle.chart_model.specs.declared.guard.Guard.{Guard, Test, Not', And', Or'}
+use Rattle.lin_form.specs.Trees.{Tree}
+use Rattle.lin_form.specs.Trees as tree
 use Rattle.chart_model.specs.Guard.{comparisons_of, truth_of_guard, IsReadableGuard}
 use Rattle.chart_model.specs.Chart.{IsFormOver}
 use Rattle.chart_meaning.proofs.Acting.{sum_of_products-zeros_after}
@@ -17,14 +18,14 @@ All-right : {X : Type 0} (P : X → Type 0) (xs ys : List X) → All P (xs ++ ys
 All-right P xs ys all k d h = let n = length-append xs ys in let less : length xs + k < length (xs ++ ys) = omega arith in subst P (get_or-append-add xs ys k d) (all (length xs + k) d less)
 
 -- the guard of a chart's transition can be read on the vectors of the chart
-pub IsReadableGuard-over : (guard : Guard) (inputs memories numbers : ℕ) → inputs ≡ numbers → All (λ comparison. IsFormOver inputs memories comparison.form) (comparisons_of guard) → IsReadableGuard numbers guard
-IsReadableGuard-over (Test comparison) inputs memories numbers e all = let f = all 0 comparison (omega arith) in record { moderate = f.moderate; inputs = f.each_input ∙ e }
-IsReadableGuard-over (Not' p guard) inputs memories numbers e all = IsReadableGuard-over guard inputs memories numbers e all
-IsReadableGuard-over (And' p left q right) inputs memories numbers e all = (
+pub IsReadableGuard-over : (guard : Tree Comparison) (inputs memories numbers : ℕ) → inputs ≡ numbers → All (λ comparison. IsFormOver inputs memories comparison.form) (comparisons_of guard) → IsReadableGuard numbers guard
+IsReadableGuard-over (tree.test comparison) inputs memories numbers e all = let f = all 0 comparison (omega arith) in record { moderate = f.moderate; inputs = f.each_input ∙ e }
+IsReadableGuard-over (tree.not guard) inputs memories numbers e all = IsReadableGuard-over guard inputs memories numbers e all
+IsReadableGuard-over (tree.and left right) inputs memories numbers e all = (
   IsReadableGuard-over left inputs memories numbers e (All-left (λ (comparison : Comparison). IsFormOver inputs memories comparison.form) (comparisons_of left) (comparisons_of right) all),
   IsReadableGuard-over right inputs memories numbers e (All-right (λ (comparison : Comparison). IsFormOver inputs memories comparison.form) (comparisons_of left) (comparisons_of right) all),
 )
-IsReadableGuard-over (Or' p left q right) inputs memories numbers e all = (
+IsReadableGuard-over (tree.or left right) inputs memories numbers e all = (
   IsReadableGuard-over left inputs memories numbers e (All-left (λ (comparison : Comparison). IsFormOver inputs memories comparison.form) (comparisons_of left) (comparisons_of right) all),
   IsReadableGuard-over right inputs memories numbers e (All-right (λ (comparison : Comparison). IsFormOver inputs memories comparison.form) (comparisons_of left) (comparisons_of right) all),
 )
@@ -32,8 +33,8 @@ IsReadableGuard-over (Or' p left q right) inputs memories numbers e all = (
 truth_of-padded : (comparison : Comparison) (vector memory : List ℤ) → truth_of comparison vector (padded (pos 0) 4 memory) ≡ truth_of comparison vector memory
 truth_of-padded comparison vector memory = ap (λ z. relates comparison.relation (sum_of_products comparison.form.inputs vector +ℤ z +ℤ comparison.form.constant)) (sum_of_products-zeros_after comparison.form.memory memory (4 - length memory))
 
-pub truth_of_guard-padded : (guard : Guard) (vector memory : List ℤ) → truth_of_guard guard vector (padded (pos 0) 4 memory) ≡ truth_of_guard guard vector memory
-truth_of_guard-padded (Test comparison) vector memory = truth_of-padded comparison vector memory
-truth_of_guard-padded (Not' p guard) vector memory = ap not (truth_of_guard-padded guard vector memory)
-truth_of_guard-padded (And' p left q right) vector memory = λ i. truth_of_guard-padded left vector memory i && truth_of_guard-padded right vector memory i
-truth_of_guard-padded (Or' p left q right) vector memory = λ i. truth_of_guard-padded left vector memory i || truth_of_guard-padded right vector memory i
+pub truth_of_guard-padded : (guard : Tree Comparison) (vector memory : List ℤ) → truth_of_guard guard vector (padded (pos 0) 4 memory) ≡ truth_of_guard guard vector memory
+truth_of_guard-padded (tree.test comparison) vector memory = truth_of-padded comparison vector memory
+truth_of_guard-padded (tree.not guard) vector memory = ap not (truth_of_guard-padded guard vector memory)
+truth_of_guard-padded (tree.and left right) vector memory = λ i. truth_of_guard-padded left vector memory i && truth_of_guard-padded right vector memory i
+truth_of_guard-padded (tree.or left right) vector memory = λ i. truth_of_guard-padded left vector memory i || truth_of_guard-padded right vector memory i

@@ -4,14 +4,14 @@ ghost use Rattle.std.specs.List.{All, range_with_len};
 ghost use Rattle.std.specs.Option.{ForSome, option_map_or};
 ghost use Rattle.lin_form.specs.Range.{IsCount};
 ghost use Rattle.chart_model.specs.Chart.{AreNames, IsAction, IsFormOver, IsGuard, IsMemory, IsState, IsTransition, is_declared, range_size};
-ghost use Rattle.chart_model.specs.Guard.{comparisons_of, depth_of_guard};
+ghost use Rattle.chart_model.specs.Guard.{plain, comparisons_of, depth_of_guard};
 ghost use Rattle.chart_model.specs.States.{IsTree, is_start_child_of, is_top_start, is_within_depth, parent_of};
 ghost use Rattle.chart_model.specs.declared.state.State.{State};
 
 use crate::rows::has_children;
 use crate::start::is_top_start;
 use crate::tree::is_child_of;
-use chart_model::{Action, Chart, Guard, Memory, Place, State, Transition};
+use chart_model::{Action, Chart, Condition, Guard, Memory, Place, State, Transition};
 use lin_form::{Comparison, Form, Input, Inputs, Name, Names, Relation, Reply, Signature, Vector};
 use sqlite_items::Items;
 use std::alloc::{AllocError, Global};
@@ -81,8 +81,8 @@ fn actions(rt: &impl Abort, alloc: Global, rows: &[Assignment]) -> Result<Items<
 
 /// The guard that holds where the one before holds and one more test does.
 fn and_test(alloc: Global, before: Option<Guard>, test: Comparison) -> Result<Guard, AllocError>
-    ensures tests { IfOk result (λ guard. comparisons_of guard ≡ option_map_or comparisons_of before [] ++ test ∷ []) }
-    ensures depth { IfOk result (λ guard. depth_of_guard guard ≤ max (option_map_or depth_of_guard before 0) 1 + 1) }
+    ensures tests { IfOk result (λ guard. comparisons_of (plain guard) ≡ option_map_or (λ guard. comparisons_of (plain guard)) before [] ++ test ∷ []) }
+    ensures depth { IfOk result (λ guard. depth_of_guard (plain guard) ≤ max (option_map_or (λ guard. depth_of_guard (plain guard)) before 0) 1 + 1) }
 {
     match before {
         Some(before) => {
@@ -93,7 +93,7 @@ fn and_test(alloc: Global, before: Option<Guard>, test: Comparison) -> Result<Gu
     }
 }
 
-fn guard(rt: &impl Abort, alloc: Global, tests: &[Test]) -> Result<Option<Guard>, AllocError>
+fn guard(rt: &impl Abort, alloc: Global, tests: &[Test]) -> Result<Option<Condition>, AllocError>
     ensures { IfOk result (λ guard. ForSome guard (IsGuard 2 1)) }
 {
     assert!(rt; tests.len() <= 64);
@@ -103,7 +103,10 @@ fn guard(rt: &impl Abort, alloc: Global, tests: &[Test]) -> Result<Option<Guard>
         let relation = test.0;
         all = Some(and_test(alloc, all, Comparison { form, relation })?);
     }
-    Ok(all)
+    match all {
+        Some(all) => Ok(Some(Condition::new(all))),
+        None => Ok(None),
+    }
 }
 
 /// A name of one letter.

@@ -6,7 +6,7 @@ ghost use Rattle.chart_meaning.specs.Rows.{AreRows, IsRowThatFires};
 
 use crate::config::Config;
 use crate::rows::Row;
-use chart_model::{Chart, Transition, guard_holds};
+use chart_model::{Chart, Transition};
 use lin_form::Vector;
 
 /// The row of the transition that fires, if one does.
@@ -36,7 +36,7 @@ fn is_guard_true(chart: &Chart, transition: &Transition, config: &Config, input:
     ensures { result ≡ is_guard_true input.now config.now.memory transition.now }
 {
     match &transition.guard {
-        Some(guard) => guard_holds(guard, input, &config.memory()),
+        Some(condition) => condition.is_true(input, &config.memory()),
         None => true,
     }
 }

@@ -14,7 +14,7 @@ use Rattle.lin_form.specs.Name.{reserved_words}
 use Rattle.chart_model.specs.declared.action.Action.{Action}
 use Rattle.chart_model.specs.declared.action.Place.{Place}
 use Rattle.chart_model.specs.declared.action.Place.TheVariants as place
-use Rattle.chart_model.specs.declared.guard.Guard.{Guard}
+use Rattle.lin_form.specs.Trees.{Tree}
 use Rattle.chart_model.specs.declared.state.Memory.{Memory}
 use Rattle.chart_model.specs.declared.state.State.{State}
 use Rattle.chart_model.specs.declared.transition.Transition.{Transition}
@@ -58,7 +58,7 @@ pub record IsAction (inputs memories outputs : ℕ) (action : Action) : Type 0 w
   pub no_inputs : AreZero action.value.inputs
 
 -- a guard is small, and its forms are over the inputs and memories
-pub record IsGuard (inputs memories : ℕ) (guard : Guard) : Type 0 where
+pub record IsGuard (inputs memories : ℕ) (guard : Tree Comparison) : Type 0 where
   pub few : length (comparisons_of guard) ≤ 64
   pub shallow : depth_of_guard guard ≤ 128
   pub forms : All (λ comparison. IsFormOver inputs memories comparison.form) (comparisons_of guard)

@@ -1,7 +1,8 @@
 ghost use Rattle.std.specs.Prelude.{◌≡◌, length};
-ghost use Rattle.chart_model.specs.Guard.{truth_of_guard, IsReadableGuard};
+ghost use Rattle.chart_model.specs.Guard.{plain, truth_of_guard, IsReadableGuard};
 
 use lin_form::{Comparison, Vector, holds};
+use std::marker::Model;
 
 /// A condition on the input vector and the memories. Chains of `and` and of `or` associate to the left.
 #[derive(Drop)]
@@ -12,10 +13,50 @@ pub enum Guard {
     Or(Box<Guard>, Box<Guard>),
 }
 
+/// The guard of a transition, which contracts see as its tree, wherever it lies in memory.
+#[derive(Drop)]
+pub struct Condition {
+    guard: Guard,
+}
+
+impl Model for Condition {
+    ghost use Rattle.lin_form.specs.Trees.{Tree};
+    ghost use Rattle.lin_form.specs.declared.form.Comparison.{Comparison};
+    ghost use Rattle.chart_model.specs.Guard.{plain, guard_code};
+
+    ghost Value = { Tree Comparison };
+
+    ghost coded = { guard_code };
+
+    ghost view = { λ condition. plain condition.guard };
+}
+
+impl Condition {
+    pub fn new(guard: Guard) -> Condition
+        ensures { result ≡ plain guard }
+    {
+        Condition { guard }
+    }
+
+    pub fn guard(&self) -> &Guard
+        ensures { plain result.now ≡ self.now }
+    {
+        &self.guard
+    }
+
+    /// Whether it is true for an input vector and the memories' values.
+    pub fn is_true(&self, vector: &Vector, memory: &[i64; 4]) -> bool
+        requires { IsReadableGuard (length vector.now) self.now }
+        ensures { result ≡ truth_of_guard self.now vector.now memory.now }
+    {
+        guard_holds(&self.guard, vector, memory)
+    }
+}
+
 /// Whether the guard is true for an input vector and the memories' values.
 pub fn guard_holds(guard: &Guard, vector: &Vector, memory: &[i64; 4]) -> bool
-    requires { IsReadableGuard (length vector.now) guard.now }
-    ensures { result ≡ truth_of_guard guard.now vector.now memory.now }
+    requires { IsReadableGuard (length vector.now) (plain guard.now) }
+    ensures { result ≡ truth_of_guard (plain guard.now) vector.now memory.now }
 {
     match guard {
         Guard::Test(comparison) => holds(comparison, vector, memory),

@@ -11,6 +11,6 @@ mod transition;
 
 pub use action::{Action, Place};
 pub use chart::Chart;
-pub use guard::{Guard, guard_holds};
+pub use guard::{Condition, Guard, guard_holds};
 pub use state::{Memory, State};
 pub use transition::Transition;

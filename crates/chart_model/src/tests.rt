@@ -1,7 +1,7 @@
 //! The truth of a guard with every operator, over the values of two memories.
 ghost use Rattle.std.specs.Prelude.{◌≤◌, IfOk};
 ghost use Rattle.lin_form.specs.Form.{size_of};
-ghost use Rattle.chart_model.specs.Guard.{IsReadableGuard};
+ghost use Rattle.chart_model.specs.Guard.{plain, IsReadableGuard};
 
 use crate::{Guard, guard_holds};
 use lin_form::{Comparison, Form, Relation, Vector};
@@ -11,7 +11,7 @@ use std::test::Fail;
 /// The guard that some memory is at least 1.
 fn is_set(alloc: Global, memory: [i64; 4]) -> Guard
     requires { size_of memory ≤ 900000000 }
-    ensures { IsReadableGuard 1 result }
+    ensures { IsReadableGuard 1 (plain result) }
 {
     Guard::Test(Comparison {
         form: Form {
@@ -25,7 +25,7 @@ fn is_set(alloc: Global, memory: [i64; 4]) -> Guard
 
 /// The first memory is set, or it is not and the second is.
 fn exactly_as_or(alloc: Global) -> Result<Guard, AllocError>
-    ensures { IfOk result (IsReadableGuard 1) }
+    ensures { IfOk result (λ guard. IsReadableGuard 1 (plain guard)) }
 {
     let unset = Guard::Not(Box::new(alloc, is_set(alloc, [1, 0, 0, 0]))?);
     let second = Box::new(alloc, is_set(alloc, [0, 1, 0, 0]))?;

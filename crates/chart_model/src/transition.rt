@@ -1,5 +1,5 @@
 use crate::action::Action;
-use crate::guard::Guard;
+use crate::guard::Condition;
 use sqlite_items::Items;
 
 /// A transition from a state, taken from it and from all states inside it. States are named by their numbers.
@@ -7,7 +7,7 @@ use sqlite_items::Items;
 pub struct Transition {
     pub source: usize,
     /// Without a guard it is always enabled.
-    pub guard: Option<Guard>,
+    pub guard: Option<Condition>,
     pub effect: Items<Action>,
     /// Without a target only the effect is done.
     pub target: Option<usize>,

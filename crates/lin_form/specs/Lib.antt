@@ -7,3 +7,4 @@ pub mod Form
 pub mod Inequality
 pub mod Atom
 pub mod SameAtom
+pub mod Trees
