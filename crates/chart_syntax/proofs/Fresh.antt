@@ -10,12 +10,13 @@ use Rattle.std.proofs.lemmas.List.Quantifiers.{all_pairs_push}
 use Rattle.std.proofs.lemmas.Map.Views.{list_any-from_Contains}
 use Rattle.std.specs.Cmp.Lexicographic.{nat_list_eq_equiv, bytes_decides}
 use Rattle.lin_form.specs.Name.{reserved_words}
-use Rattle.chart_syntax.specs.declared.keyword.Keyword.{Keyword}
+use Rattle.line_forms.specs.declared.keyword.Keyword.{Keyword}
 use Rattle.chart_syntax.specs.declared.error.Refusal.{Refusal}
-use Rattle.chart_syntax.specs.Lexemes.{keywords, keyword_in}
+use Rattle.line_forms.specs.Lexemes.{keywords, keyword_in}
 use Rattle.chart_syntax.specs.Names.{is_same, is_declared, place_of}
-use Rattle.chart_syntax.specs.Checks.{or_else, use_check, number_of}
-use Rattle.chart_syntax.specs.Promises.{IsFree}
+use Rattle.line_forms.specs.Limits.{IsFree}
+use Rattle.chart_syntax.specs.Collect.{or_else, use_check}
+use Rattle.chart_syntax.specs.Checks.{number_of}
 
 pub or_none : (a b : Option Refusal) → or_else a b ≡ None → (a ≡ None) × (b ≡ None)
 or_none None b e = (refl, e)

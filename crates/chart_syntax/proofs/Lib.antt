@@ -1,9 +1,10 @@
-pub mod Units
-pub mod Plain
+pub mod Sums
 pub mod Fresh
-pub mod Effects
-pub mod Actions
+pub mod Moderate
+pub mod Trees
+pub mod Partial
+pub mod Placing
 pub mod Lines
 pub mod Vectors
-pub mod Partial
+pub mod Joined
 pub mod Whole

@@ -1,159 +1,64 @@
--- Lines read one after another, and the tokens of a line.
-use Rattle.std.proofs.Common.{◌≡◌, ℕ, ◌-◌, ◌<◌, ◌≤◌, Bool, true, false, ◌||◌, List, [], ◌∷◌, length, take, drop, map, codes, Option, Some, None, refl, sym, ◌∙◌, subst, arith}
-use Rattle.std.specs.Prelude.{if◌then◌else◌, nat_lt, count_by, ℤ, pos, Result, Ok, Err, OnOk}
-use Rattle.std.specs.List.{All}
-use Rattle.std.proofs.lemmas.Bool.Decides.{nat_tests}
-use Rattle.std.proofs.lemmas.List.{length-drop, length-take-le}
-use Rattle.std.proofs.lemmas.List.Elements.{All-nil, All-cons}
-use Rattle.lin_form.specs.Name.{spells_name, starts_name}
-use Rattle.std.specs.Char.{is_ascii_digit}
-use Rattle.line_tokens.specs.declared.place.Place.{Place}
-use Rattle.line_tokens.specs.declared.token.Token.{Token}
-use Rattle.line_tokens.specs.declared.token.Word.{Word}
-use Rattle.line_tokens.specs.declared.token.Word.TheVariants as word
-use Rattle.line_tokens.specs.declared.error.TokenLimit.{TokenLimit}
-use Rattle.line_tokens.specs.declared.error.TokenLimit.TheVariants as token_limits
-use Rattle.line_tokens.specs.Lines.{lines_of, content_of}
-use Rattle.line_tokens.specs.Spelling.{starts, is_token, is_number, is_symbol, is_symbol_byte, is_before_equals, word_of, decimal_value, symbol_number}
-use Rattle.line_tokens.specs.Tokens.{HasPlaces, IsLongest, IsTokenized, token_at, run}
-use Rattle.line_tokens.specs.Limits.{IsRead, limit_of, first_limit, token_limit, word_limit, is_word, is_nesting, or_else}
-use Rattle.chart_syntax.specs.declared.error.LineError.{LineError}
-use Rattle.chart_syntax.specs.declared.lexeme.Lexeme.{Lexeme}
+-- The lines of a text, read one after another.
+use Rattle.std.proofs.Common.{◌≡◌, ℕ, ◌+◌, ◌≤◌, ◌<◌, List, [], ◌∷◌, length, Some, None, refl, sym, ◌∙◌, subst, arith}
+use Rattle.std.specs.Prelude.{Option, Result, Ok, Err}
+use Rattle.chart_model.specs.declared.chart.Chart.{Chart}
+use Rattle.line_tokens.specs.declared.error.TokenError.{TokenError}
+use Rattle.line_tokens.specs.Lines.{lines_of}
+use Rattle.line_forms.specs.declared.statement.Sighted.{Sighted}
+use Rattle.line_forms.specs.Forms.{IsSighted}
+use Rattle.line_forms.specs.Views.{IsView}
 use Rattle.chart_syntax.specs.declared.reader.Reader.{Reader}
-use Rattle.chart_syntax.specs.declared.statement.Sighted.{Sighted}
-use Rattle.chart_syntax.specs.Lexemes.{IsSound, AreSound, lexeme_of, IsLexed}
-use Rattle.chart_syntax.specs.Forms.{IsSighted}
-use Rattle.chart_syntax.specs.Checks.{start, checks, first_of, next, Takes}
-use Rattle.chart_syntax.specs.Reading.{ReadsLine, ReadsLines, PassesTo}
+use Rattle.chart_syntax.specs.declared.error.Refusal.{Refusal}
+use Rattle.chart_syntax.specs.declared.error.Refusal.TheVariants.{Fault, Limit}
+use Rattle.chart_syntax.specs.declared.error.LineError.{LineError}
+use Rattle.chart_syntax.specs.declared.error.LineError.TheVariants.{Refused, Memory}
+use Rattle.chart_syntax.specs.Checks.{start, refused_at, end_check, Passes}
 use Rattle.chart_syntax.specs.Promises.{IsPartial}
-use Rattle.chart_syntax.proofs.Partial.{partial_line, partial_start}
-
-or_none : {T : Type 0} (a b : Option T) → or_else a b ≡ None → (a ≡ None) × (b ≡ None)
-or_none None b e = (refl, e)
-or_none (Some r) b e = absurd (cc)
-
-few_if : (b : Bool) (n m : ℕ) (l : TokenLimit) → nat_lt m n ≡ b → (if b then Some l else None) ≡ None → n ≤ m
-few_if true n m l e h = absurd (cc)
-few_if false n m l e h = grind (arith, nat_tests)
-
-few : (n m : ℕ) (l : TokenLimit) → (if nat_lt m n then Some l else None) ≡ None → n ≤ m
-few n m l h = few_if (nat_lt m n) n m l refl h
-
-letter_no_digit : (b : ℕ) → starts_name b ≡ true → is_ascii_digit b ≡ false
-letter_no_digit b h = grind arith
-
-letter_no_symbol : (b : ℕ) → starts_name b ≡ true → is_symbol_byte b ≡ false
-letter_no_symbol b h = grind arith
-
-letter_not_before : (b : ℕ) → starts_name b ≡ true → is_before_equals b ≡ false
-letter_not_before b h = grind arith
-
-no_symbol : (b : ℕ) (bs : List ℕ) → is_symbol_byte b ≡ false → is_before_equals b ≡ false → is_symbol (b ∷ bs) ≡ false
-no_symbol b [] p q = p
-no_symbol b (c ∷ []) p q = rw q refl
-no_symbol b (c ∷ d ∷ bs) p q = refl
-
-or_nothing : (a : Bool) → (a || false) ≡ true → a ≡ true
-or_nothing true e = refl
-or_nothing false e = e
-
--- a token whose first byte begins names is spelled as one
-name_spelled : (bytes : List ℕ) → is_token bytes ≡ true → starts starts_name bytes ≡ true → spells_name bytes ≡ true
-name_spelled [] t s = absurd (cc)
-name_spelled (b ∷ bs) t s =
-    let d = letter_no_digit b s in
-    let n : is_number (b ∷ bs) ≡ false = rw d refl in
-    let y = no_symbol b bs (letter_no_symbol b s) (letter_not_before b s) in
-    let u : ((spells_name (b ∷ bs) || false) || false) ≡ true = (λ i. (spells_name (b ∷ bs) || sym n i) || sym y i) ∙ t in
-    or_nothing (spells_name (b ∷ bs)) (or_nothing (spells_name (b ∷ bs) || false) u)
-
-name_if : (b d : Bool) (z : ℤ) (n : ℕ) → (if b then word.Name else if d then word.Number z else word.Symbol n) ≡ word.Name → b ≡ true
-name_if true d z n e = refl
-name_if false true z n e = absurd (cc)
-name_if false false z n e = absurd (cc)
-
-starts_word : (bytes : List ℕ) → word_of bytes ≡ word.Name → starts starts_name bytes ≡ true
-starts_word bytes e = name_if (starts starts_name bytes) (starts is_ascii_digit bytes) (pos (decimal_value bytes)) (symbol_number bytes) e
-
-short_name : (after : Bool) (w : Word) (n : ℕ) → word_limit after w n ≡ None → w ≡ word.Name → n ≤ 32
-short_name after w n none is = few n 32 token_limits.NameBytes (subst (λ v. word_limit after v n ≡ None) is none)
-
-sound_token : (line : List ℕ) (after : Bool) (p : Place) → p.from < p.to → IsLongest (drop p.from line) (p.to - p.from) → token_limit after (token_at line p) ≡ None → IsSound line (token_at line p)
-sound_token line after p some longest none =
-    let fits : p.to - p.from ≤ length (drop p.from line) = longest.within in
-    let left = length-drop p.from line in
-    let wide : 0 < p.to - p.from = longest.some in
-    let size : length (take (p.to - p.from) (drop p.from line)) ≡ p.to - p.from = length-take-le (p.to - p.from) (drop p.from line) fits in
-    record {
-      order = omega (arith, some);
-      within = omega (arith, fits, left, wide, some);
-      name = λ h. record {
-        spelled = name_spelled (run line p.from p.to) longest.token (starts_word (run line p.from p.to) h);
-        short = let most = short_name after (token_at line p).word (p.to - p.from) none h in omega (arith, size, most);
-      };
-    }
-
-all_sound : (line : List ℕ) (at : ℕ) (after : Bool) (ps : List Place) → HasPlaces line at ps → first_limit line after (map (token_at line) ps) ≡ None → All (IsSound line) (map (token_at line) ps)
-all_sound line at after [] h none = All-nil (IsSound line)
-all_sound line at after (p ∷ ps) h none =
-    let t = token_at line p in
-    let after_it = after || is_word line (codes "gives") t in
-    let s = or_none (token_limit after t) (first_limit line after_it (map (token_at line) ps)) none in
-    All-cons (IsSound line) t (map (token_at line) ps) (sound_token line after p h.1 h.3 s.0) (all_sound line p.to after_it ps h.4 s.1)
-
-sound_content : (content : List ℕ) (tokens : List Token) → IsTokenized content tokens → limit_of content tokens ≡ None → AreSound content tokens
-sound_content content tokens t none =
-    let count = if nat_lt 1024 (length tokens) then Some token_limits.Tokens else None in
-    let deep = if nat_lt 64 (count_by (is_nesting content) tokens) then Some token_limits.Nesting else None in
-    let a = or_none (first_limit content false tokens) (or_else count deep) none in
-    let b = or_none count deep a.1 in
-    record {
-      few = few (length tokens) 1024 token_limits.Tokens b.0;
-      each = subst (All (IsSound content)) (sym t.are) (all_sound content 0 false t.places t.stand (subst (λ ts. first_limit content false ts ≡ None) t.are a.0));
-    }
-
-pub sound_tokens : (line : List ℕ) (tokens : List Token) → IsRead line tokens → AreSound (content_of line) tokens
-sound_tokens line tokens read = sound_content (content_of line) tokens read.tokenized read.unlimited
+use Rattle.chart_syntax.specs.Reading.{ReadsFrom, RefusesFrom, Reads, Refuses, IsMet, IsSoFar, TakesLine, IsRefusedBy, IsContent, view_check, next_view}
 
 -- the lines before the rest are read
-pub record IsReadTo (text rest : List ℕ) (reader : Reader) : Type 0 where
-  pub back : (end : Reader) → ReadsLines reader (lines_of rest) end → ReadsLines start (lines_of text) end
-  pub partial : IsPartial reader
+pub record IsReadTo (text rest : List ℕ) (s : Reader) (n : ℕ) : Type 0 where
+  pub so_far : IsSoFar text rest s n
+  pub partial : IsPartial s
+  pub count : n + length rest ≤ length text + 1
 
-pub is_lexed : (line content : List ℕ) (tokens handed : List Token) (lexemes : List Lexeme) → IsRead line tokens → content ≡ content_of line → handed ≡ tokens → lexemes ≡ map (lexeme_of content) handed → IsLexed line lexemes
-is_lexed line content tokens handed lexemes read c t e = record { tokens = tokens; tokenized = read; mean = e ∙ (λ j. map (lexeme_of (c j)) (t j)) }
+pub lines_begin : (text : List ℕ) → IsPartial start → IsReadTo text text start 1
+lines_begin text partial = record { so_far = record { back = λ chart h. h; refused = λ m refusal h. h }; partial = partial; count = omega arith }
 
-passes_blank : (s : Reader) (lexemes : List Lexeme) → length lexemes ≡ 0 → PassesTo s lexemes s
-passes_blank s [] e = refl
-passes_blank s (x ∷ xs) e = absurd (omega arith)
+met_none : (check : Option Refusal) (n m : ℕ) (refusal : Refusal) (later : Type 0) → check ≡ None → later → IsMet check n m refusal later
+met_none check n m refusal later e h = subst (λ o. IsMet o n m refusal later) (sym e) h
 
-passes_one : (s t : Reader) (lexemes : List Lexeme) (sighted : Sighted) → (length lexemes ≡ 0 → ⊥) → IsSighted lexemes sighted → first_of checks s sighted ≡ None → t ≡ next s sighted → PassesTo s lexemes t
-passes_one s t [] sighted some seen pass is = absurd (some refl)
-passes_one s t (x ∷ xs) sighted some seen pass is = (sighted, seen, pass, is)
+met_some : (check : Option Refusal) (n : ℕ) (refusal : Refusal) (later : Type 0) → check ≡ Some refusal → IsMet check n n refusal later
+met_some check n refusal later e = subst (λ o. IsMet o n n refusal later) (sym e) (refl, refl)
 
-pub read_blank : (s : Reader) (line : List ℕ) (lexemes : List Lexeme) → IsLexed line lexemes → length lexemes ≡ 0 → ReadsLine s line s
-read_blank s line lexemes lexed e = record { lexemes = lexemes; lexed = lexed; passes = passes_blank s lexemes e }
-
-pub read_passed : (s t : Reader) (line : List ℕ) (lexemes : List Lexeme) (sighted : Sighted) (r : Result (Unit {0}) LineError) → IsLexed line lexemes → (length lexemes ≡ 0 → ⊥) → IsSighted lexemes sighted → Takes checks next s t sighted r → OnOk r (ReadsLine s line t)
-read_passed s t line lexemes sighted (Ok u) lexed some seen takes = record { lexemes = lexemes; lexed = lexed; passes = passes_one s t lexemes sighted some seen takes.0 takes.1 }
-read_passed s t line lexemes sighted (Err e) lexed some seen takes = tt
-
--- the tokens that were read, where they are handed on
-pub sound_line : (line content : List ℕ) (tokens handed : List Token) → IsRead line tokens → content ≡ content_of line → handed ≡ tokens → AreSound content handed
-sound_line line content tokens handed read c t =
-    let P : List ℕ → Type 0 = λ bytes. AreSound bytes handed in
-    let Q : List Token → Type 0 = λ ts. AreSound (content_of line) ts in
-    subst P (sym c) (subst Q (sym t) (sound_tokens line tokens read))
-
-pub lines_more : (text line rest after : List ℕ) (s t : Reader) → IsReadTo text rest s → lines_of rest ≡ line ∷ lines_of after → ReadsLine s line t → IsReadTo text after t
-lines_more text line rest after s t read is one = record {
-  back = λ end h. read.back end (subst (λ ls. ReadsLines s ls end) (sym is) (t, one, h));
-  partial = partial_line s t line read.partial one;
+pub so_far_more : (text line rest after : List ℕ) (s t : Reader) (n : ℕ) → IsSoFar text rest s n → lines_of rest ≡ line ∷ lines_of after → TakesLine s t line (Ok tt) → IsSoFar text after t (n + 1)
+so_far_more text line rest after s t n read is takes = record {
+  back = λ chart h. read.back chart (subst (λ ls. ReadsFrom s ls chart) (sym is) (takes.0, takes.1, takes.2, subst (λ u. ReadsFrom u (lines_of after) chart) takes.3 h));
+  refused = λ m refusal h.
+      let later = RefusesFrom (next_view s takes.0) (n + 1) (lines_of after) m refusal in
+      read.refused m refusal (subst (λ ls. RefusesFrom s n ls m refusal) (sym is) (takes.0, takes.1, met_none (view_check s takes.0) n m refusal later takes.2 (subst (λ u. RefusesFrom u (n + 1) (lines_of after) m refusal) takes.3 h)));
 }
 
-pub lines_begin : (text : List ℕ) → IsReadTo text text start
-lines_begin text = record { back = λ end h. h; partial = partial_start }
+pub lines_more : (text line rest after : List ℕ) (s t : Reader) (n : ℕ) → IsReadTo text rest s n → lines_of rest ≡ line ∷ lines_of after → length after < length rest → TakesLine s t line (Ok tt) → IsPartial t → IsReadTo text after t (n + 1)
+lines_more text line rest after s t n read is less takes partial = record { so_far = so_far_more text line rest after s t n read.so_far is takes; partial = partial; count = let h = read.count in omega (arith, h, less) }
 
-pub lines_end : (text rest : List ℕ) (s : Reader) → IsReadTo text rest s → length rest ≡ 0 → ReadsLines start (lines_of text) s
-lines_end text [] s read e = read.back s refl
-lines_end text (b ∷ bs) s read e = absurd (omega arith)
+refused_as : (text line rest after : List ℕ) (s t : Reader) (n : ℕ) (refusal : Refusal) → IsReadTo text rest s n → lines_of rest ≡ line ∷ lines_of after → TakesLine s t line (Err (Refused refusal)) → Refuses text n refusal
+refused_as text line rest after s t n refusal read is takes =
+    let later = RefusesFrom (next_view s takes.0) (n + 1) (lines_of after) n refusal in
+    read.so_far.refused n refusal (subst (λ ls. RefusesFrom s n ls n refusal) (sym is) (takes.0, takes.1, met_some (view_check s takes.0) n refusal later takes.2))
+
+-- a line that is refused refuses the text, at its number
+pub lines_refused : (text line rest after : List ℕ) (s t : Reader) (n : ℕ) (error : LineError) → IsReadTo text rest s n → lines_of rest ≡ line ∷ lines_of after → TakesLine s t line (Err error) → IsRefusedBy (Refuses text) (refused_at n error)
+lines_refused text line rest after s t n (Refused (Fault k)) read is takes = refused_as text line rest after s t n (Fault k) read is takes
+lines_refused text line rest after s t n (Refused (Limit w)) read is takes = refused_as text line rest after s t n (Limit w) read is takes
+lines_refused text line rest after s t n Memory read is takes = tt
+
+pub lines_end : (text rest : List ℕ) (s : Reader) (n : ℕ) → IsReadTo text rest s n → length rest ≡ 0 → IsSoFar text [] s n
+lines_end text [] s n read e = read.so_far
+lines_end text (b ∷ bs) s n read e = absurd (omega arith)
+
+-- what is missing at the end refuses the text, at the number after the last line's
+pub end_refused : (text : List ℕ) (s : Reader) (n : ℕ) (error : LineError) → IsSoFar text [] s n → Passes (end_check s) (Err error) → IsRefusedBy (Refuses text) (refused_at n error)
+end_refused text s n (Refused (Fault k)) read h = read.refused n (Fault k) (refl, h)
+end_refused text s n (Refused (Limit w)) read h = read.refused n (Limit w) (refl, h)
+end_refused text s n Memory read h = tt

@@ -1,302 +1,475 @@
 -- What was declared keeps its promises with each line that passes its checks.
-use Rattle.std.proofs.Common.{◌≡◌, ◌≢◌, ℕ, zero, suc, ◌+◌, ◌<◌, ◌≤◌, Bool, true, false, cond, ◌||◌, ◌&&◌, not, List, [], ◌∷◌, ◌++◌, length, map, ℤ, pos, Option, Some, None, refl, sym, ◌∙◌, ap, subst, arith, append_assoc, length-append}
-use Rattle.std.specs.Prelude.{if◌then◌else◌, ◌==◌, nat_lt, nat_le, int_lt, ◌-ℤ◌, unsigned_abs, count_by, AllPairs}
-use Rattle.std.specs.List.{All, list_any}
-use Rattle.std.specs.Option.{ForSome}
+use Rattle.std.proofs.Common.{◌≡◌, ◌≢◌, ℕ, zero, suc, ◌+◌, ◌*◌, ◌<◌, ◌≤◌, Bool, true, false, cond, ◌||◌, ◌&&◌, not, List, [], ◌∷◌, ◌++◌, length, map, ℤ, pos, Option, Some, None, refl, sym, ◌∙◌, ap, subst, arith, append_assoc, length-append, mul_assoc}
+use Rattle.std.specs.Prelude.{if◌then◌else◌, ◌==◌, nat_lt, nat_le, int_lt, ◌≤ℤ◌, unsigned_abs, AllPairs, slice_get, slice_set, option_map, option_and_then, unwrap_or}
+use Rattle.std.specs.List.{All, list_any, list_all}
+use Rattle.std.specs.Option.{ForSome, option_map_or}
 use Rattle.std.proofs.lemmas.Bool.Decides.{nat_tests}
 use Rattle.std.proofs.lemmas.Int.{ints}
-use Rattle.std.proofs.lemmas.List.{map-append, append-nil, length-map}
-use Rattle.std.proofs.lemmas.List.Elements.{All-nil, All-cons, All-push}
+use Rattle.std.proofs.lemmas.List.{map-append, append-nil, length-map, length-set}
+use Rattle.std.proofs.lemmas.List.Elements.{All-nil, All-push, All-set}
 use Rattle.std.proofs.lemmas.List.Folds.{list_any-append}
-use Rattle.std.proofs.lemmas.List.Sums.{sum_by-append}
-use Rattle.lin_form.specs.Form.{IsModerate, size_of}
-use Rattle.chart_model.specs.declared.guard.Guard.TheVariants as guard
-use Rattle.chart_model.specs.Chart.{IsAction, IsGuard, IsFormOver, AreZero}
-use Rattle.chart_syntax.specs.declared.keyword.Keyword.{Keyword}
-use Rattle.chart_syntax.specs.declared.lexeme.Lexeme.{Lexeme}
-use Rattle.chart_syntax.specs.declared.statement.InputForm.{InputForm}
-use Rattle.chart_syntax.specs.declared.statement.OutputForm.{OutputForm}
-use Rattle.chart_syntax.specs.declared.statement.StateForm.{StateForm}
-use Rattle.chart_syntax.specs.declared.statement.Test.{Test}
-use Rattle.chart_syntax.specs.declared.statement.Assign.{Assign}
-use Rattle.chart_syntax.specs.declared.statement.OnForm.{OnForm}
-use Rattle.chart_syntax.specs.declared.statement.Statement.{Statement}
-use Rattle.chart_syntax.specs.declared.statement.Statement.TheVariants as says
-use Rattle.chart_syntax.specs.declared.statement.Sighted.{Sighted}
+use Rattle.lin_form.specs.declared.form.Relation.TheVariants as relation
+use Rattle.lin_form.specs.Range.{IsRange}
+use Rattle.line_forms.specs.declared.lexeme.Lexeme.{Lexeme}
+use Rattle.line_forms.specs.declared.keyword.Keyword.{Keyword}
+use Rattle.line_forms.specs.declared.keyword.Keyword.TheVariants as keyword
+use Rattle.line_forms.specs.declared.statement.Signed.{Signed}
+use Rattle.line_forms.specs.declared.statement.Signed.TheVariants.{Plain, Negated}
+use Rattle.line_forms.specs.declared.statement.TestForm.{TestForm}
+use Rattle.line_forms.specs.declared.statement.InputForm.{InputForm}
+use Rattle.line_forms.specs.declared.statement.OutputForm.{OutputForm}
+use Rattle.line_forms.specs.declared.statement.MemoryForm.{MemoryForm}
+use Rattle.line_forms.specs.declared.statement.StateForm.{StateForm}
+use Rattle.line_forms.specs.declared.statement.ActionsForm.{ActionsForm}
+use Rattle.line_forms.specs.declared.statement.OnForm.{OnForm}
+use Rattle.line_forms.specs.declared.statement.Statement.{Statement}
+use Rattle.line_forms.specs.declared.statement.Statement.TheVariants as says
+use Rattle.line_forms.specs.declared.statement.Sighted.{Sighted}
+use Rattle.line_forms.specs.Trees as written
+use Rattle.line_forms.specs.Forms.{value_of, IsSighted, IsStatement, reserved_in, reserved_at}
+use Rattle.line_forms.specs.Limits.{IsFree, IsSmallNumber, IsSmallTest, IsSmallAction, IsSmallGuard, IsSmallOn, IsSmallStatement, IsSmallSight}
+use Rattle.chart_model.specs.declared.action.Action.{Action}
+use Rattle.chart_model.specs.Chart.{IsAssumption, IsGuard}
+use Rattle.chart_syntax.specs.declared.reader.DeclaredState.{DeclaredState}
 use Rattle.chart_syntax.specs.declared.reader.Reader.{Reader}
+use Rattle.chart_syntax.specs.declared.sum.Scope.TheVariants as scope
 use Rattle.chart_syntax.specs.declared.error.Kind.TheVariants as kind
 use Rattle.chart_syntax.specs.declared.error.Which.TheVariants as which
 use Rattle.chart_syntax.specs.declared.error.Refusal.{Refusal}
 use Rattle.chart_syntax.specs.declared.error.Refusal.TheVariants.{Fault, Limit}
-use Rattle.chart_syntax.specs.Forms.{value_of, IsSighted}
 use Rattle.chart_syntax.specs.Names.{is_same, is_declared, place_of}
-use Rattle.chart_syntax.specs.Checks.{or_else, first_of, checks, start, input_names, output_names, state_names, group_of, head_check, version_check, line_check, order_check, form_check, double_check, use_check, state_check, test_check, assign_check, effect_check, target_check, names_check, range_check, start_check, count_check, zeros, unit, number_of, comparison_of, guard_of, action_of, target_of, transition_of, next_statement, next_form}
-use Rattle.chart_syntax.specs.Promises.{IsFree, HasRange, HasSmallValue, IsMove, IsPartial}
-use Rattle.chart_syntax.specs.Reading.{PassesTo, ReadsLine}
-use Rattle.chart_syntax.proofs.Units.{length-zeros, length-unit, size_of-zeros, size_of-unit}
-use Rattle.chart_syntax.proofs.Plain.{IsSmall, IsSmallTest, AreSmall, IsSoundStatement, ArePlain, plain_lexemes, sound_statement, group_said, group_of_statement}
-use Rattle.chart_syntax.proofs.Fresh.{or_none, if_none, below, ordered_range, ordered, different_push, number_within, none_counted}
-
-all_zero : (n : ℕ) → AreZero (zeros n)
-all_zero zero = All-nil (λ z. z ≡ pos 0)
-all_zero (suc n) = All-cons (λ z. z ≡ pos 0) (pos 0) (zeros n) refl (all_zero n)
-
-number_below : {X : Type 0} (f : X → List ℕ) (name : List ℕ) (xs : List X) (other : Bool) → use_check (place_of name (map f xs)) other ≡ None → number_of name (map f xs) < length xs
-number_below f name xs other h = let less = number_within name (map f xs) other h in subst (λ n. number_of name (map f xs) < n) (length-map xs f) less
-
-below_test : (n m : ℕ) → n < m → nat_lt n m ≡ true
-below_test n m h = grind (arith, nat_tests)
-
-moderate : (coefficients : List ℤ) (constant : ℤ) → size_of coefficients ≤ 1 → unsigned_abs constant ≤ 1000000 → IsModerate (record { inputs = coefficients; memory = zeros 4; constant = constant })
-moderate coefficients constant s c = record { constant = omega (arith, c); memory = let e = size_of-zeros 4 in omega (arith, e); inputs = omega (arith, s) }
-
-negated : (z : ℤ) → unsigned_abs z ≤ 1000000 → unsigned_abs (pos 0 -ℤ z) ≤ 1000000
-negated z h = omega (arith, ints)
-
-some_same : {X : Type 0} (a b : X) → Some a ≡ Some b → a ≡ b
-some_same a b e = cc
-
-good_test : (s : Reader) (t : Test) → IsSmall t.bound → IsGuard (length s.inputs) 0 (guard.Test (comparison_of s t))
-good_test s t small =
-    let n = number_of t.name (input_names s) in
-    let form : IsFormOver (length s.inputs) 0 (comparison_of s t).form = record {
-      moderate = moderate (unit (length s.inputs) n) (pos 0 -ℤ value_of t.bound) (size_of-unit (length s.inputs) n) (negated (value_of t.bound) small);
-      each_input = length-unit (length s.inputs) n;
-      undeclared = all_zero 4;
-    } in
-    record { few = omega arith; shallow = omega arith; forms = All-cons (λ c. IsFormOver (length s.inputs) 0 c.form) (comparison_of s t) [] form (All-nil (λ c. IsFormOver (length s.inputs) 0 c.form)) }
-
-good_guard : (s : Reader) (t : Option Test) → IsSmallTest t → ForSome (guard_of s t) (λ g. IsGuard (length s.inputs) 0 g)
-good_guard s None small = λ g e. absurd (cc)
-good_guard s (Some t) small = λ g e. subst (IsGuard (length s.inputs) 0) (some_same (guard.Test (comparison_of s t)) g e) (good_test s t small)
-
-good_action : (s : Reader) (a : Assign) → IsSmall a.value → use_check (place_of a.name (output_names s)) (is_declared a.name (input_names s)) ≡ None → IsAction (length s.inputs) 0 (length s.outputs) (action_of s a)
-good_action s a small found = record {
-  place = below_test (number_of a.name (output_names s)) (length s.outputs) (number_below (λ form. form.name) a.name s.outputs (is_declared a.name (input_names s)) found);
-  value = record {
-    moderate = moderate (zeros (length s.inputs)) (value_of a.value) (let e = size_of-zeros (length s.inputs) in omega (arith, e)) small;
-    each_input = length-zeros (length s.inputs);
-    undeclared = all_zero 4;
-  };
-  no_inputs = all_zero (length s.inputs);
-}
-
-good_actions : (s : Reader) (effect : List Assign) → AreSmall effect → effect_check s effect ≡ None → All (IsAction (length s.inputs) 0 (length s.outputs)) (map (action_of s) effect)
-good_actions s [] small found = All-nil (IsAction (length s.inputs) 0 (length s.outputs))
-good_actions s (a ∷ more) small found =
-    let h = or_none (assign_check s a) (effect_check s more) found in
-    All-cons (IsAction (length s.inputs) 0 (length s.outputs)) (action_of s a) (map (action_of s) more) (good_action s a small.0 h.0) (good_actions s more small.1 h.1)
-
-good_target : (s : Reader) (name : Option (List ℕ)) → target_check s name ≡ None → ForSome (target_of s name) (λ target. target < length s.states)
-good_target s None found = λ n e. absurd (cc)
-good_target s (Some name) found = λ n e. subst (λ k. k < length s.states) (some_same (number_of name (state_names s)) n e) (number_below (λ form. form.name) name s.states false found)
-
-good_move : (s : Reader) (f : OnForm) → IsSmallTest f.test → AreSmall f.effect → names_check s (says.On f) ≡ None → IsMove (length s.inputs) (length s.outputs) (length s.states) (transition_of s f)
-good_move s f test effect found =
-    let a = or_none (state_check s f.source) (or_else (test_check s f.test) (or_else (effect_check s f.effect) (target_check s f.target))) found in
-    let b = or_none (test_check s f.test) (or_else (effect_check s f.effect) (target_check s f.target)) a.1 in
-    let d = or_none (effect_check s f.effect) (target_check s f.target) b.1 in
-    record {
-      source = number_below (λ form. form.name) f.source s.states false a.0;
-      guard = good_guard s f.test test;
-      effect = good_actions s f.effect effect d.0;
-      target = good_target s f.target d.1;
-      history = refl;
-    }
+use Rattle.chart_syntax.specs.Collect.{or_else, use_check, input_names, output_names, memory_names, comparison_of}
+use Rattle.chart_syntax.specs.Checks.{first_of, checks, start, state_names, state_check, some_state_check, is_variable, head_check, version_check, line_check, order_check, form_check, group_of, is_version, comparisons_check, names_check, range_check, start_check, count_check, limit_check, double_check, when_check, guard_of, actions_check, actions_of, target_check, found_target_check, is_parent, is_child_of, is_outside, is_constant, is_bounded, memory_size, parent_number, depth_under, number_of, declared_state, transition_of, next_statement, next_form, next}
+use Rattle.chart_syntax.specs.Promises.{HasRange, HasSmallValue, HasMemory, HasFew, HasNoActions, AreLines, AreActions, AreStates, IsMove, AreMoves, IsPartial, has_depth, product_of, variable_names}
+use Rattle.chart_syntax.proofs.Fresh.{or_none, if_none, or_false, below, ordered_range, different_push, number_within}
+use Rattle.chart_syntax.proofs.Moderate.{place_below, good_guard, good_actions, assumption_form, not_constant}
+use Rattle.chart_syntax.proofs.Trees.{states_push, found_at}
 
 one_more : {X : Type 0} (xs : List X) (x : X) (n : ℕ) → length xs < n → length (xs ++ x ∷ []) ≤ n
 one_more xs x n h = let e = length-append xs (x ∷ []) in omega arith
 
-declared_both : (name : List ℕ) (xs ys : List (List ℕ)) → double_check (is_declared name xs || is_declared name ys) ≡ None → is_declared name (xs ++ ys) ≡ false
-declared_both name xs ys h = list_any-append (is_same name) xs ys ∙ if_none (is_declared name xs || is_declared name ys) (Fault kind.Double) h
+limit_none : (b : Bool) (w : _) → limit_check b w ≡ None → b ≡ false
+limit_none b w e = if_none b (Limit w) e
 
-no_moves : (i o n : ℕ) (s : Reader) → s.transitions ≡ [] → All (IsMove i o n) s.transitions
-no_moves i o n s e = subst (All (IsMove i o n)) (sym e) (All-nil (IsMove i o n))
+small_value : (n : Signed) → IsSmallNumber n → unsigned_abs (value_of n) ≤ 1000000
+small_value (Plain n) h = omega (arith, ints)
+small_value (Negated n) h = omega (arith, ints)
 
-one_if : (b : Bool) → cond {A = ℕ} b 1 0 ≤ 1
-one_if true = omega arith
-one_if false = omega arith
+-- a name that is no variable is none of their names
+new_name : (s : Reader) (name : List ℕ) → double_check (is_variable s name) ≡ None → is_declared name (variable_names s) ≡ false
+new_name s name h =
+    list_any-append (is_same name) (input_names s ++ output_names s) (memory_names s)
+    ∙ ap (λ b. b || is_declared name (memory_names s)) (list_any-append (is_same name) (input_names s) (output_names s))
+    ∙ if_none (is_variable s name) (Fault kind.Double) h
 
-as_none : (b : Bool) → b ≡ false → cond {A = ℕ} b 1 0 ≡ 0
-as_none true e = absurd (cc)
-as_none false e = refl
+no_lines : (s : Reader) (lines : List (Option (List Action))) → All (λ line. line ≡ None) lines → AreLines s lines
+no_lines s lines h = λ k d less. let e = h k d less in λ actions f. absurd (cc)
 
-counted_push : (xs : List StateForm) (f : StateForm) → count_by (λ form. form.start) (xs ++ f ∷ []) ≡ count_by (λ form. form.start) xs + (0 + cond f.start 1 0)
-counted_push xs f = sum_by-append (λ (form : StateForm). cond form.start 1 0) xs (f ∷ [])
-
-one_started : (xs : List StateForm) (f : StateForm) → count_by (λ form. form.start) xs ≡ 0 → count_by (λ form. form.start) (xs ++ f ∷ []) ≤ 1
-one_started xs f e = let h = counted_push xs f in let g = one_if f.start in omega (arith, h, e, g)
-
-not_started : (xs : List StateForm) (f : StateForm) → f.start ≡ false → count_by (λ form. form.start) xs ≤ 1 → count_by (λ form. form.start) (xs ++ f ∷ []) ≤ 1
-not_started xs f e one = let h = counted_push xs f in let g = as_none f.start e in omega (arith, h, g, one)
-
-started : (b : Bool) (xs : List StateForm) (f : StateForm) → f.start ≡ b → (if b && list_any (λ form. form.start) xs then Some (Fault kind.Start) else None) ≡ None → count_by (λ form. form.start) xs ≤ 1 → count_by (λ form. form.start) (xs ++ f ∷ []) ≤ 1
-started true xs f e h one =
-    let none = if_none (list_any (λ form. form.start) xs) (Fault kind.Start) h in
-    let zero_before = none_counted (λ form. form.start) xs none in
-    one_started xs f zero_before
-started false xs f e h one = not_started xs f e one
+no_moves : (s : Reader) (t : Reader) → s.transitions ≡ [] → AreMoves t s.transitions
+no_moves s t e = subst (AreMoves t) (sym e) (All-nil (IsMove (length t.inputs) (length t.memories) (length t.outputs) t.states))
 
 push_names : {X : Type 0} (f : X → List ℕ) (front : List (List ℕ)) (xs : List X) (x : X) → front ++ map f (xs ++ x ∷ []) ≡ (front ++ map f xs) ++ f x ∷ []
 push_names f front xs x = ap (λ ys. front ++ ys) (map-append f xs (x ∷ [])) ∙ sym (append_assoc front (map f xs) (f x ∷ []))
 
-push_inputs : (s : Reader) (f : InputForm) → s.outputs ≡ [] → map (λ form. form.name) (s.inputs ++ f ∷ []) ++ output_names s ≡ (input_names s ++ output_names s) ++ f.name ∷ []
-push_inputs s f none =
-    let P : List OutputForm → Type 0 = λ outs. map (λ form. form.name) (s.inputs ++ f ∷ []) ++ map (λ form. form.name) outs ≡ (input_names s ++ map (λ form. form.name) outs) ++ f.name ∷ [] in
-    subst P (sym none) (append-nil (map (λ form. form.name) (s.inputs ++ f ∷ [])) ∙ map-append (λ form. form.name) s.inputs (f ∷ []) ∙ ap (λ xs. xs ++ f.name ∷ []) (sym (append-nil (input_names s))))
+push_inputs : (s : Reader) (f : InputForm) → s.outputs ≡ [] → s.memories ≡ [] → map (λ form. form.name) (s.inputs ++ f ∷ []) ++ output_names s ++ memory_names s ≡ variable_names s ++ f.name ∷ []
+push_inputs s f o m =
+    let P : List OutputForm → List MemoryForm → Type 0 = λ outs mems. map (λ form. form.name) (s.inputs ++ f ∷ []) ++ map (λ form. form.name) outs ++ map (λ form. form.name) mems ≡ (input_names s ++ map (λ form. form.name) outs ++ map (λ form. form.name) mems) ++ f.name ∷ [] in
+    let all = map (λ (form : InputForm). form.name) (s.inputs ++ f ∷ []) in
+    let none : (xs : List (List ℕ)) → xs ++ [] ++ [] ≡ xs = λ xs. append-nil (xs ++ []) ∙ append-nil xs in
+    subst (P s.outputs) (sym m) (subst (λ outs. P outs []) (sym o) (none all ∙ map-append (λ form. form.name) s.inputs (f ∷ []) ∙ ap (λ xs. xs ++ f.name ∷ []) (sym (none (input_names s)))))
 
-partial_input : (s : Reader) (f : InputForm) → IsPartial s → s.group ≤ 1 → IsSoundStatement (says.Input f) → names_check s (says.Input f) ≡ None → range_check s (says.Input f) ≡ None → count_check s (says.Input f) ≡ None → IsPartial (next_statement s (says.Input f))
-partial_input s f p early sound names range count =
+push_outputs : (s : Reader) (f : OutputForm) → s.memories ≡ [] → input_names s ++ map (λ form. form.name) (s.outputs ++ f ∷ []) ++ memory_names s ≡ variable_names s ++ f.name ∷ []
+push_outputs s f m =
+    let P : List MemoryForm → Type 0 = λ mems. input_names s ++ map (λ form. form.name) (s.outputs ++ f ∷ []) ++ map (λ form. form.name) mems ≡ (input_names s ++ output_names s ++ map (λ form. form.name) mems) ++ f.name ∷ [] in
+    subst P (sym m) (append-nil (input_names s ++ map (λ form. form.name) (s.outputs ++ f ∷ [])) ∙ push_names (λ (form : OutputForm). form.name) (input_names s) s.outputs f ∙ ap (λ xs. xs ++ f.name ∷ []) (sym (append-nil (input_names s ++ output_names s))))
+
+partial_input : (s : Reader) (f : InputForm) → IsPartial s → s.group ≤ 1 → IsSmallStatement (says.Input f) → names_check s (says.Input f) ≡ None → range_check s (says.Input f) ≡ None → count_check s (says.Input f) ≡ None → IsPartial (next_statement s (says.Input f))
+partial_input s f p early small names range count =
+    let t = next_statement s (says.Input f) in
+    let outs = p.outputs_later (omega (arith, early)) in
+    let mems = p.memories_later (omega (arith, early)) in
     let none = p.inputs_first early in
-    let last : s.transitions ≡ [] = p.transitions_last (omega (arith, early)) in
-    let same = push_inputs s f none in
-    let new = declared_both f.name (input_names s) (output_names s) names in
+    let quiet = p.actions_last (omega (arith, early)) in
+    let few = p.few in
+    let same = push_inputs s f outs mems in
     record {
-      few_inputs = one_more s.inputs f 6 (below (length s.inputs) 6 (if_none (nat_le 6 (length s.inputs)) (Limit which.Inputs) count));
-      few_outputs = p.few_outputs;
-      few_states = p.few_states;
-      few_transitions = p.few_transitions;
-      ranges = All-push HasRange s.inputs f p.ranges (record { ordered = ordered_range (value_of f.lo) (value_of f.hi) (if_none (int_lt (value_of f.hi) (value_of f.lo)) (Fault kind.Range) range); low = sound.1; high = sound.2 });
+      few = record { version = few.version; inputs = one_more s.inputs f 6 (below (length s.inputs) 6 (limit_none (nat_le 6 (length s.inputs)) which.Inputs count)); assumed = few.assumed; outputs = few.outputs; memories = few.memories; product = few.product; states = few.states; transitions = few.transitions; entries = few.entries; exits = few.exits };
+      ranges = All-push HasRange s.inputs f p.ranges (record { ordered = ordered_range (value_of f.lo) (value_of f.hi) (if_none (int_lt (value_of f.hi) (value_of f.lo)) (Fault kind.Range) range); low = small_value f.lo small.1; high = small_value f.hi small.2 });
+      assumptions = subst (All (IsAssumption (length (s.inputs ++ f ∷ [])))) (sym none) (All-nil (IsAssumption (length (s.inputs ++ f ∷ []))));
       values = p.values;
-      free = subst (All IsFree) (sym same) (All-push IsFree (input_names s ++ output_names s) f.name p.free sound.0);
-      different = subst (AllPairs (λ a b. a ≢ b)) (sym same) (different_push (input_names s ++ output_names s) f.name p.different new);
+      memories = p.memories;
+      product = p.product;
+      free = subst (All IsFree) (sym same) (All-push IsFree (variable_names s) f.name p.free small.0);
+      different = subst (AllPairs (λ a b. a ≢ b)) (sym same) (different_push (variable_names s) f.name p.different (new_name s f.name names));
       free_states = p.free_states;
       different_states = p.different_states;
-      one_start = p.one_start;
+      tree = p.tree;
+      entries = no_lines t s.entries quiet.entries;
+      exits = no_lines t s.exits quiet.exits;
+      moves = no_moves s t quiet.transitions;
       inputs_first = λ h. none;
-      transitions_last = λ h. last;
-      moves = no_moves (length (s.inputs ++ f ∷ [])) (length s.outputs) (length s.states) s last;
+      outputs_later = λ h. outs;
+      memories_later = λ h. mems;
+      actions_last = λ h. record { entries = quiet.entries; exits = quiet.exits; transitions = quiet.transitions };
     }
 
-partial_output : (s : Reader) (f : OutputForm) → IsPartial s → s.group ≤ 3 → IsSoundStatement (says.Output f) → names_check s (says.Output f) ≡ None → count_check s (says.Output f) ≡ None → IsPartial (next_statement s (says.Output f))
-partial_output s f p early sound names count =
-    let last : s.transitions ≡ [] = p.transitions_last (omega (arith, early)) in
-    let same = push_names (λ form. form.name) (input_names s) s.outputs f in
-    let new = declared_both f.name (input_names s) (output_names s) names in
+partial_assumption : (s : Reader) (t : TestForm) → IsPartial s → s.group ≤ 2 → IsSmallStatement (says.Assume t) → t.relation ≢ relation.NotEqual → range_check s (says.Assume t) ≡ None → count_check s (says.Assume t) ≡ None → IsPartial (next_statement s (says.Assume t))
+partial_assumption s t p early small differs range count =
+    let c = comparison_of s scope.Assumption t in
+    let outs = p.outputs_later early in
+    let mems = p.memories_later (omega (arith, early)) in
+    let quiet = p.actions_last (omega (arith, early)) in
+    let few = p.few in
     record {
-      few_inputs = p.few_inputs;
-      few_outputs = one_more s.outputs f 8 (below (length s.outputs) 8 (if_none (nat_le 8 (length s.outputs)) (Limit which.Outputs) count));
-      few_states = p.few_states;
-      few_transitions = p.few_transitions;
+      few = record { version = few.version; inputs = few.inputs; assumed = one_more s.assumed c 16 (below (length s.assumed) 16 (limit_none (nat_le 16 (length s.assumed)) which.Assumptions count)); outputs = few.outputs; memories = few.memories; product = few.product; states = few.states; transitions = few.transitions; entries = few.entries; exits = few.exits };
       ranges = p.ranges;
-      values = All-push HasSmallValue s.outputs f p.values sound.1;
-      free = subst (All IsFree) (sym same) (All-push IsFree (input_names s ++ output_names s) f.name p.free sound.0);
-      different = subst (AllPairs (λ a b. a ≢ b)) (sym same) (different_push (input_names s ++ output_names s) f.name p.different new);
-      free_states = p.free_states;
-      different_states = p.different_states;
-      one_start = p.one_start;
-      inputs_first = λ h. absurd (omega (arith, h));
-      transitions_last = λ h. last;
-      moves = no_moves (length s.inputs) (length (s.outputs ++ f ∷ [])) (length s.states) s last;
-    }
-
-partial_state : (s : Reader) (f : StateForm) → IsPartial s → s.group ≤ 5 → IsSoundStatement (says.State f) → names_check s (says.State f) ≡ None → start_check s (says.State f) ≡ None → count_check s (says.State f) ≡ None → IsPartial (next_statement s (says.State f))
-partial_state s f p early sound names begins count =
-    let last : s.transitions ≡ [] = p.transitions_last early in
-    let same = map-append (λ form. form.name) s.states (f ∷ []) in
-    let new = if_none (is_declared f.name (state_names s)) (Fault kind.Double) names in
-    record {
-      few_inputs = p.few_inputs;
-      few_outputs = p.few_outputs;
-      few_states = one_more s.states f 64 (below (length s.states) 64 (if_none (nat_le 64 (length s.states)) (Limit which.States) count));
-      few_transitions = p.few_transitions;
-      ranges = p.ranges;
+      assumptions = All-push (IsAssumption (length s.inputs)) s.assumed c p.assumptions (record { form = assumption_form s t few small; varies = not_constant c.form.inputs (if_none (is_constant c) (Fault kind.Range) range); relation = differs });
       values = p.values;
+      memories = p.memories;
+      product = p.product;
       free = p.free;
       different = p.different;
-      free_states = subst (All IsFree) (sym same) (All-push IsFree (state_names s) f.name p.free_states sound);
-      different_states = subst (AllPairs (λ a b. a ≢ b)) (sym same) (different_push (state_names s) f.name p.different_states new);
-      one_start = started f.start s.states f refl begins p.one_start;
+      free_states = p.free_states;
+      different_states = p.different_states;
+      tree = p.tree;
+      entries = p.entries;
+      exits = p.exits;
+      moves = p.moves;
       inputs_first = λ h. absurd (omega (arith, h));
-      transitions_last = λ h. last;
-      moves = no_moves (length s.inputs) (length s.outputs) (length (s.states ++ f ∷ [])) s last;
+      outputs_later = λ h. outs;
+      memories_later = λ h. mems;
+      actions_last = λ h. record { entries = quiet.entries; exits = quiet.exits; transitions = quiet.transitions };
     }
 
-partial_on : (s : Reader) (f : OnForm) → IsPartial s → IsSoundStatement (says.On f) → names_check s (says.On f) ≡ None → count_check s (says.On f) ≡ None → IsPartial (next_statement s (says.On f))
-partial_on s f p sound names count = record {
-  few_inputs = p.few_inputs;
-  few_outputs = p.few_outputs;
-  few_states = p.few_states;
-  few_transitions = one_more s.transitions (transition_of s f) 256 (below (length s.transitions) 256 (if_none (nat_le 256 (length s.transitions)) (Limit which.Transitions) count));
-  ranges = p.ranges;
-  values = p.values;
-  free = p.free;
-  different = p.different;
-  free_states = p.free_states;
-  different_states = p.different_states;
-  one_start = p.one_start;
-  inputs_first = λ h. absurd (omega (arith, h));
-  transitions_last = λ h. absurd (omega (arith, h));
-  moves = All-push (IsMove (length s.inputs) (length s.outputs) (length s.states)) s.transitions (transition_of s f) p.moves (good_move s f sound.0 sound.1 names);
-}
+partial_output : (s : Reader) (f : OutputForm) → IsPartial s → s.group ≤ 3 → IsSmallStatement (says.Output f) → names_check s (says.Output f) ≡ None → count_check s (says.Output f) ≡ None → IsPartial (next_statement s (says.Output f))
+partial_output s f p early small names count =
+    let t = next_statement s (says.Output f) in
+    let mems = p.memories_later early in
+    let quiet = p.actions_last (omega (arith, early)) in
+    let few = p.few in
+    let same = push_outputs s f mems in
+    record {
+      few = record { version = few.version; inputs = few.inputs; assumed = few.assumed; outputs = one_more s.outputs f 8 (below (length s.outputs) 8 (limit_none (nat_le 8 (length s.outputs)) which.Outputs count)); memories = few.memories; product = few.product; states = few.states; transitions = few.transitions; entries = few.entries; exits = few.exits };
+      ranges = p.ranges;
+      assumptions = p.assumptions;
+      values = All-push HasSmallValue s.outputs f p.values (small_value f.value small.1);
+      memories = p.memories;
+      product = p.product;
+      free = subst (All IsFree) (sym same) (All-push IsFree (variable_names s) f.name p.free small.0);
+      different = subst (AllPairs (λ a b. a ≢ b)) (sym same) (different_push (variable_names s) f.name p.different (new_name s f.name names));
+      free_states = p.free_states;
+      different_states = p.different_states;
+      tree = p.tree;
+      entries = no_lines t s.entries quiet.entries;
+      exits = no_lines t s.exits quiet.exits;
+      moves = no_moves s t quiet.transitions;
+      inputs_first = λ h. absurd (omega (arith, h));
+      outputs_later = λ h. absurd (omega (arith, h));
+      memories_later = λ h. mems;
+      actions_last = λ h. record { entries = quiet.entries; exits = quiet.exits; transitions = quiet.transitions };
+    }
 
-partial_chart : (s : Reader) (n : ℕ) → IsPartial s → s.group ≤ 0 → IsPartial (next_statement s (says.Chart n))
-partial_chart s n p early = record {
-  few_inputs = p.few_inputs;
-  few_outputs = p.few_outputs;
-  few_states = p.few_states;
-  few_transitions = p.few_transitions;
-  ranges = p.ranges;
-  values = p.values;
-  free = p.free;
-  different = p.different;
-  free_states = p.free_states;
-  different_states = p.different_states;
-  one_start = p.one_start;
-  inputs_first = λ h. p.inputs_first (omega (arith, early));
-  transitions_last = λ h. p.transitions_last (omega (arith, early));
-  moves = p.moves;
-}
+product_push : (forms : List MemoryForm) (f : MemoryForm) → product_of (forms ++ f ∷ []) ≡ product_of forms * memory_size f
+product_push [] f = omega arith
+product_push (g ∷ forms) f = let e = product_push forms f in ap (λ n. memory_size g * n) e ∙ sym (mul_assoc (memory_size g) (product_of forms) (memory_size f))
 
-partial_statement : (s : Reader) (said : Statement) → IsPartial s → s.group ≤ group_said said → IsSoundStatement said → names_check s said ≡ None → range_check s said ≡ None → start_check s said ≡ None → count_check s said ≡ None → IsPartial (next_statement s said)
-partial_statement s (says.Chart n) p early sound names range begins count = partial_chart s n p early
-partial_statement s (says.Input f) p early sound names range begins count = partial_input s f p early sound names range count
-partial_statement s (says.Output f) p early sound names range begins count = partial_output s f p early sound names count
-partial_statement s (says.State f) p early sound names range begins count = partial_state s f p early sound names begins count
-partial_statement s (says.On f) p early sound names range begins count = partial_on s f p sound names count
+not_true : (b : Bool) → not b ≡ false → b ≡ true
+not_true true e = refl
+not_true false e = absurd (cc)
 
-after_last : (a : Option Refusal) → or_else a None ≡ None → a ≡ None
-after_last None e = refl
-after_last (Some r) e = absurd (cc)
+both_true : (a b : Bool) → (a && b) ≡ true → (a ≡ true) × (b ≡ true)
+both_true true b e = (refl, e)
+both_true false b e = absurd (cc)
 
-partial_form : (s : Reader) (head : Option Keyword) (form : Option Statement) (ts : List Lexeme) → IsPartial s → ArePlain ts → IsSighted ts (record { head = head; form = form }) → first_of checks s (record { head = head; form = form }) ≡ None → IsPartial (next_form s form)
-partial_form s head None ts p plain seen pass = p
-partial_form s head (Some said) ts p plain seen pass =
-    let l : Sighted = record { head = head; form = Some said } in
-    let rest = or_else (names_check s said) (or_else (range_check s said) (or_else (start_check s said) (or_else (count_check s said) None))) in
-    let a = or_none (head_check s.group l) (or_else (form_check s l) rest) pass in
-    let b = or_none (form_check s l) rest a.1 in
-    let d = or_none (names_check s said) (or_else (range_check s said) (or_else (start_check s said) (or_else (count_check s said) None))) b.1 in
-    let e = or_none (range_check s said) (or_else (start_check s said) (or_else (count_check s said) None)) d.1 in
-    let f = or_none (start_check s said) (or_else (count_check s said) None) e.1 in
-    let g = or_none (version_check s.group (Some said)) (or_else (line_check s.group head) (order_check s.group head)) a.0 in
-    let h = or_none (line_check s.group head) (order_check s.group head) g.1 in
-    let o = ordered s.group (group_of head) (if_none (not (s.group == 0) && nat_lt (group_of head) s.group) (Fault kind.Misplaced) h.1) in
-    let k : group_of head ≡ group_said said = ap group_of seen.head ∙ group_of_statement ts said seen.form in
-    partial_statement s said p (subst (λ n. s.group ≤ n) k o) (sound_statement ts said plain seen.form) d.0 e.0 f.0 (after_last (count_check s said) f.1)
+at_most : (n m : ℕ) → nat_le n m ≡ true → n ≤ m
+at_most n m e = grind (arith, nat_tests)
 
-partial_passes : (s t : Reader) (ts : List Lexeme) → IsPartial s → ArePlain ts → PassesTo s ts t → IsPartial t
-partial_passes s t [] p plain passes = subst IsPartial (sym passes) p
-partial_passes s t (x ∷ xs) p plain passes = subst IsPartial (sym passes.3) (partial_form s passes.0.head passes.0.form (x ∷ xs) p plain passes.1 passes.2)
+at_most_not : (n m : ℕ) → nat_lt m n ≡ false → n ≤ m
+at_most_not n m e = grind (arith, nat_tests)
 
--- a line that is read keeps the promises
-pub partial_line : (s t : Reader) (line : List ℕ) → IsPartial s → ReadsLine s line t → IsPartial t
-partial_line s t line p read = partial_passes s t read.lexemes p (plain_lexemes line read.lexemes read.lexed) read.passes
+partial_memory : (s : Reader) (f : MemoryForm) → IsPartial s → s.group ≤ 4 → IsSmallStatement (says.Memory f) → names_check s (says.Memory f) ≡ None → range_check s (says.Memory f) ≡ None → count_check s (says.Memory f) ≡ None → IsPartial (next_statement s (says.Memory f))
+partial_memory s f p early small names range count =
+    let t = next_statement s (says.Memory f) in
+    let quiet = p.actions_last (omega (arith, early)) in
+    let few = p.few in
+    let same = push_names (λ (form : MemoryForm). form.name) (input_names s ++ output_names s) s.memories f in
+    let outside = if_none (is_outside f) (Fault kind.Range) range in
+    let a = or_false (int_lt (value_of f.hi) (value_of f.lo) || int_lt (value_of f.value) (value_of f.lo)) (int_lt (value_of f.hi) (value_of f.value)) outside in
+    let b = or_false (int_lt (value_of f.hi) (value_of f.lo)) (int_lt (value_of f.value) (value_of f.lo)) a.0 in
+    let x = or_none (limit_check (nat_le 4 (length s.memories)) which.Memories) (or_else (limit_check (not (is_bounded f)) which.Bound) (limit_check (nat_lt 256 (s.product * memory_size f)) which.Product)) count in
+    let y = or_none (limit_check (not (is_bounded f)) which.Bound) (limit_check (nat_lt 256 (s.product * memory_size f)) which.Product) x.1 in
+    let z = both_true (nat_le (unsigned_abs (value_of f.lo)) 1000) (nat_le (unsigned_abs (value_of f.hi)) 1000) (not_true (is_bounded f) (limit_none (not (is_bounded f)) which.Bound y.0)) in
+    record {
+      few = record { version = few.version; inputs = few.inputs; assumed = few.assumed; outputs = few.outputs; memories = one_more s.memories f 4 (below (length s.memories) 4 (limit_none (nat_le 4 (length s.memories)) which.Memories x.0)); product = at_most_not (s.product * memory_size f) 256 (limit_none (nat_lt 256 (s.product * memory_size f)) which.Product y.1); states = few.states; transitions = few.transitions; entries = few.entries; exits = few.exits };
+      ranges = p.ranges;
+      assumptions = p.assumptions;
+      values = p.values;
+      memories = All-push HasMemory s.memories f p.memories (record { low = at_most (unsigned_abs (value_of f.lo)) 1000 z.0; high = at_most (unsigned_abs (value_of f.hi)) 1000 z.1; above = ordered_range (value_of f.lo) (value_of f.value) b.1; below = ordered_range (value_of f.value) (value_of f.hi) a.1 });
+      product = ap (λ n. n * memory_size f) p.product ∙ sym (product_push s.memories f);
+      free = subst (All IsFree) (sym same) (All-push IsFree (variable_names s) f.name p.free small.free);
+      different = subst (AllPairs (λ a b. a ≢ b)) (sym same) (different_push (variable_names s) f.name p.different (new_name s f.name names));
+      free_states = p.free_states;
+      different_states = p.different_states;
+      tree = p.tree;
+      entries = no_lines t s.entries quiet.entries;
+      exits = no_lines t s.exits quiet.exits;
+      moves = no_moves s t quiet.transitions;
+      inputs_first = λ h. absurd (omega (arith, h));
+      outputs_later = λ h. absurd (omega (arith, h));
+      memories_later = λ h. absurd (omega (arith, h));
+      actions_last = λ h. record { entries = quiet.entries; exits = quiet.exits; transitions = quiet.transitions };
+    }
+
+parent_below : (s : Reader) (name : Option (List ℕ)) (parent : ℕ) → parent_number s name ≡ Some parent → parent < length s.states
+parent_below s None parent e = absurd (cc)
+parent_below s (Some name) parent e = let h = place_below name (state_names s) parent e in subst (λ n. parent < n) (length-map s.states (λ state. state.name)) h
+
+-- the depth of a new state follows from its parent's
+new_depth : (s : Reader) (parent : Option ℕ) → ((k : ℕ) → parent ≡ Some k → k < length s.states) → ForSome parent (λ k. (above : DeclaredState) × (slice_get s.states k ≡ Some above) × (depth_under s parent ≡ above.depth + 1))
+new_depth s parent h = λ k e.
+    let found = found_at s.states k (h k e) in
+    (found.0, found.1, ap (λ o. option_map_or (λ (above : DeclaredState). above.depth) (option_and_then (slice_get s.states) o) 0 + 1) e ∙ ap (λ o. option_map_or (λ (above : DeclaredState). above.depth) o 0 + 1) found.1)
+
+all_none : (lines : List (Option (List Action))) → All (λ line. line ≡ None) lines → All (λ line. line ≡ None) (lines ++ None ∷ [])
+all_none lines h = All-push (λ (line : Option (List Action)). line ≡ None) lines None h refl
+
+partial_state : (s : Reader) (f : StateForm) → IsPartial s → s.group ≤ 5 → IsSmallStatement (says.State f) → names_check s (says.State f) ≡ None → start_check s (says.State f) ≡ None → count_check s (says.State f) ≡ None → IsPartial (next_statement s (says.State f))
+partial_state s f p early small names begins count =
+    let t = next_statement s (says.State f) in
+    let x = declared_state s f in
+    let quiet = p.actions_last early in
+    let few = p.few in
+    let same = map-append (λ (state : DeclaredState). state.name) s.states (x ∷ []) in
+    let a = or_none (double_check (is_declared f.name (state_names s))) (some_state_check s f.parent) names in
+    let new = if_none (is_declared f.name (state_names s)) (Fault kind.Double) a.0 in
+    let b = or_none (limit_check (nat_le 64 (length s.states)) which.States) (limit_check (nat_lt 8 (depth_under s (parent_number s f.parent))) which.Depth) count in
+    let below_all = parent_below s f.parent in
+    let entries = all_none s.entries quiet.entries in
+    let exits = all_none s.exits quiet.exits in
+    let n = length-append s.entries (None ∷ []) in
+    let m = length-append s.exits (None ∷ []) in
+    let k = length-append s.states (x ∷ []) in
+    let e = few.entries in
+    let d = few.exits in
+    record {
+      few = record { version = few.version; inputs = few.inputs; assumed = few.assumed; outputs = few.outputs; memories = few.memories; product = few.product; states = one_more s.states x 64 (below (length s.states) 64 (limit_none (nat_le 64 (length s.states)) which.States b.0)); transitions = few.transitions; entries = omega (arith, n, k, e); exits = omega (arith, m, k, d) };
+      ranges = p.ranges;
+      assumptions = p.assumptions;
+      values = p.values;
+      memories = p.memories;
+      product = p.product;
+      free = p.free;
+      different = p.different;
+      free_states = subst (All IsFree) (sym same) (All-push IsFree (state_names s) f.name p.free_states small);
+      different_states = subst (AllPairs (λ a b. a ≢ b)) (sym same) (different_push (state_names s) f.name p.different_states new);
+      tree = states_push s.states x p.tree below_all (at_most_not (depth_under s (parent_number s f.parent)) 8 (limit_none (nat_lt 8 (depth_under s (parent_number s f.parent))) which.Depth b.1), omega arith, new_depth s (parent_number s f.parent) below_all) begins;
+      entries = no_lines t (s.entries ++ None ∷ []) entries;
+      exits = no_lines t (s.exits ++ None ∷ []) exits;
+      moves = no_moves s t quiet.transitions;
+      inputs_first = λ h. absurd (omega (arith, h));
+      outputs_later = λ h. absurd (omega (arith, h));
+      memories_later = λ h. absurd (omega (arith, h));
+      actions_last = λ h. record { entries = entries; exits = exits; transitions = quiet.transitions };
+    }
+
+some_same : {X : Type 0} (a b : X) → Some a ≡ Some b → a ≡ b
+some_same a b e = cc
+
+good_line : (s : Reader) (actions : List Action) → AreActions (length s.inputs) (length s.memories) (length s.outputs) actions → ForSome (Some actions) (AreActions (length s.inputs) (length s.memories) (length s.outputs))
+good_line s actions h = λ xs e. subst (AreActions (length s.inputs) (length s.memories) (length s.outputs)) (some_same actions xs e) h
+
+new_lines : (s : Reader) (lines : List (Option (List Action))) (k : ℕ) (f : ActionsForm) → HasFew s → AreLines s lines → All IsSmallAction f.actions → actions_check s f.actions ≡ None → AreLines s (slice_set lines k (Some (actions_of s f.actions)))
+new_lines s lines k f few kept small passes = All-set (λ line. ForSome line (AreActions (length s.inputs) (length s.memories) (length s.outputs))) lines k (Some (actions_of s f.actions)) (good_line s (actions_of s f.actions) (good_actions s f.actions few small passes)) kept
+
+partial_entry : (s : Reader) (f : ActionsForm) → IsPartial s → IsSmallStatement (says.Entry f) → names_check s (says.Entry f) ≡ None → IsPartial (next_statement s (says.Entry f))
+partial_entry s f p small names =
+    let k = number_of f.state (state_names s) in
+    let few = p.few in
+    let a = or_none (state_check s f.state) (actions_check s f.actions) names in
+    record {
+      few = record { version = few.version; inputs = few.inputs; assumed = few.assumed; outputs = few.outputs; memories = few.memories; product = few.product; states = few.states; transitions = few.transitions; entries = length-set s.entries k (Some (actions_of s f.actions)) ∙ few.entries; exits = few.exits };
+      ranges = p.ranges;
+      assumptions = p.assumptions;
+      values = p.values;
+      memories = p.memories;
+      product = p.product;
+      free = p.free;
+      different = p.different;
+      free_states = p.free_states;
+      different_states = p.different_states;
+      tree = p.tree;
+      entries = new_lines s s.entries k f few p.entries small a.1;
+      exits = p.exits;
+      moves = p.moves;
+      inputs_first = λ h. absurd (omega (arith, h));
+      outputs_later = λ h. absurd (omega (arith, h));
+      memories_later = λ h. absurd (omega (arith, h));
+      actions_last = λ h. absurd (omega (arith, h));
+    }
+
+partial_exit : (s : Reader) (f : ActionsForm) → IsPartial s → IsSmallStatement (says.Exit f) → names_check s (says.Exit f) ≡ None → IsPartial (next_statement s (says.Exit f))
+partial_exit s f p small names =
+    let k = number_of f.state (state_names s) in
+    let few = p.few in
+    let a = or_none (state_check s f.state) (actions_check s f.actions) names in
+    record {
+      few = record { version = few.version; inputs = few.inputs; assumed = few.assumed; outputs = few.outputs; memories = few.memories; product = few.product; states = few.states; transitions = few.transitions; entries = few.entries; exits = length-set s.exits k (Some (actions_of s f.actions)) ∙ few.exits };
+      ranges = p.ranges;
+      assumptions = p.assumptions;
+      values = p.values;
+      memories = p.memories;
+      product = p.product;
+      free = p.free;
+      different = p.different;
+      free_states = p.free_states;
+      different_states = p.different_states;
+      tree = p.tree;
+      entries = p.entries;
+      exits = new_lines s s.exits k f few p.exits small a.1;
+      moves = p.moves;
+      inputs_first = λ h. absurd (omega (arith, h));
+      outputs_later = λ h. absurd (omega (arith, h));
+      memories_later = λ h. absurd (omega (arith, h));
+      actions_last = λ h. absurd (omega (arith, h));
+    }
+
+number_below : (s : Reader) (name : List ℕ) (misused : Bool) → use_check (place_of name (state_names s)) misused ≡ None → number_of name (state_names s) < length s.states
+number_below s name misused h = let less = number_within name (state_names s) misused h in subst (λ n. number_of name (state_names s) < n) (length-map s.states (λ state. state.name)) less
+
+good_when : (s : Reader) (g : Option written.Tree) → HasFew s → ForSome g IsSmallGuard → nat_lt 64 (option_map_or written.tests_of g 0) ≡ false → ForSome (option_map (guard_of s) g) (λ guard. IsGuard (length s.inputs) (length s.memories) guard)
+good_when s None few small tests = λ x e. absurd (cc)
+good_when s (Some g) few small tests = λ x e. subst (IsGuard (length s.inputs) (length s.memories)) (some_same (guard_of s g) x e) (good_guard s g few (small g refl) (at_most_not (written.tests_of g) 64 tests))
+
+parent_if : (history parent : Bool) → history ≡ true → (history && not parent) ≡ false → parent ≡ true
+parent_if true true t e = refl
+parent_if true false t e = absurd (cc)
+parent_if false parent t e = absurd (cc)
+
+-- a target that passes its check is a state, and one with children where history is asked
+target_if : (s : Reader) (o : Option ℕ) (history : Bool) → found_target_check s o history ≡ None → (k : ℕ) × (o ≡ Some k) × (history ≡ true → is_parent s k ≡ true)
+target_if s None history h = absurd (cc)
+target_if s (Some k) history h = (k, refl, λ t. parent_if history (is_parent s k) t (if_none (history && not (is_parent s k)) (Fault kind.Misuse) h))
+
+found_number : (o : Option ℕ) (k : ℕ) → o ≡ Some k → unwrap_or o 0 ≡ k
+found_number o k e = ap (λ p. unwrap_or p 0) e
+
+good_target : (s : Reader) (name : Option (List ℕ)) (history : Bool) → target_check s name history ≡ None → ForSome (option_map (λ target. number_of target (state_names s)) name) (λ target. target < length s.states)
+good_target s None history h = λ x e. absurd (cc)
+good_target s (Some name) history h =
+    let t = target_if s (place_of name (state_names s)) history h in
+    let n = found_number (place_of name (state_names s)) t.0 t.1 in
+    let less = place_below name (state_names s) t.0 t.1 in
+    let below_all : t.0 < length s.states = subst (λ m. t.0 < m) (length-map s.states (λ state. state.name)) less in
+    λ x e. subst (λ m. m < length s.states) (some_same (number_of name (state_names s)) x e) (subst (λ m. m < length s.states) (sym n) below_all)
+
+good_history : (s : Reader) (name : Option (List ℕ)) (history : Bool) → target_check s name history ≡ None → (name ≡ None → history ≡ false) → history ≡ true → option_map_or (λ target. list_any (is_child_of target) s.states) (option_map (λ target. number_of target (state_names s)) name) false ≡ true
+good_history s None history h alone t = let f = alone refl in absurd (cc)
+good_history s (Some name) history h alone t =
+    let found = target_if s (place_of name (state_names s)) history h in
+    let n = found_number (place_of name (state_names s)) found.0 found.1 in
+    subst (λ k. list_any (is_child_of k) s.states ≡ true) (sym n) (found.2 t)
+
+partial_on : (s : Reader) (f : OnForm) → IsPartial s → IsSmallStatement (says.On f) → (f.target ≡ None → f.history ≡ false) → comparisons_check s (says.On f) ≡ None → names_check s (says.On f) ≡ None → count_check s (says.On f) ≡ None → IsPartial (next_statement s (says.On f))
+partial_on s f p small alone comparisons names count =
+    let few = p.few in
+    let rest = or_else (actions_check s f.effect) (target_check s f.target f.history) in
+    let a = or_none (state_check s f.source) (or_else (when_check s f.guard) rest) names in
+    let b = or_none (when_check s f.guard) rest a.1 in
+    let d = or_none (actions_check s f.effect) (target_check s f.target f.history) b.1 in
+    let tests = if_none (nat_lt 64 (option_map_or written.tests_of f.guard 0)) (Limit which.Comparisons) comparisons in
+    let move : IsMove (length s.inputs) (length s.memories) (length s.outputs) s.states (transition_of s f) = record {
+      source = number_below s f.source false a.0;
+      guard = good_when s f.guard few small.guard tests;
+      effect = good_actions s f.effect few small.effect d.0;
+      target = good_target s f.target f.history d.1;
+      history = good_history s f.target f.history d.1 alone;
+    } in
+    record {
+      few = record { version = few.version; inputs = few.inputs; assumed = few.assumed; outputs = few.outputs; memories = few.memories; product = few.product; states = few.states; transitions = one_more s.transitions (transition_of s f) 256 (below (length s.transitions) 256 (limit_none (nat_le 256 (length s.transitions)) which.Transitions count)); entries = few.entries; exits = few.exits };
+      ranges = p.ranges;
+      assumptions = p.assumptions;
+      values = p.values;
+      memories = p.memories;
+      product = p.product;
+      free = p.free;
+      different = p.different;
+      free_states = p.free_states;
+      different_states = p.different_states;
+      tree = p.tree;
+      entries = p.entries;
+      exits = p.exits;
+      moves = All-push (IsMove (length s.inputs) (length s.memories) (length s.outputs) s.states) s.transitions (transition_of s f) p.moves move;
+      inputs_first = λ h. absurd (omega (arith, h));
+      outputs_later = λ h. absurd (omega (arith, h));
+      memories_later = λ h. absurd (omega (arith, h));
+      actions_last = λ h. absurd (omega (arith, h));
+    }
+
+partial_chart : (s : Reader) (n : ℕ) → IsPartial s → n ≤ 3 → IsPartial (next_statement s (says.Chart n))
+partial_chart s n p small =
+    let few = p.few in
+    record {
+      few = record { version = small; inputs = few.inputs; assumed = few.assumed; outputs = few.outputs; memories = few.memories; product = few.product; states = few.states; transitions = few.transitions; entries = few.entries; exits = few.exits };
+      ranges = p.ranges;
+      assumptions = p.assumptions;
+      values = p.values;
+      memories = p.memories;
+      product = p.product;
+      free = p.free;
+      different = p.different;
+      free_states = p.free_states;
+      different_states = p.different_states;
+      tree = p.tree;
+      entries = p.entries;
+      exits = p.exits;
+      moves = p.moves;
+      inputs_first = p.inputs_first;
+      outputs_later = p.outputs_later;
+      memories_later = p.memories_later;
+      actions_last = λ h. let quiet = p.actions_last h in record { entries = quiet.entries; exits = quiet.exits; transitions = quiet.transitions };
+    }
+
+-- what a line's form and place in the order add to the limits
+abbrev pub IsPlaced : Reader → Statement → Type 0
+IsPlaced s (says.Chart n) = n ≤ 3
+IsPlaced s (says.Input f) = s.group ≤ 1
+IsPlaced s (says.Assume t) = (s.group ≤ 2) × (t.relation ≢ relation.NotEqual)
+IsPlaced s (says.Output f) = s.group ≤ 3
+IsPlaced s (says.Memory f) = s.group ≤ 4
+IsPlaced s (says.State f) = s.group ≤ 5
+IsPlaced s (says.Entry f) = Unit {0}
+IsPlaced s (says.Exit f) = Unit {0}
+IsPlaced s (says.On f) = f.target ≡ None → f.history ≡ false
+
+pub partial_statement : (s : Reader) (said : Statement) → IsPartial s → IsPlaced s said → IsSmallStatement said → comparisons_check s said ≡ None → names_check s said ≡ None → range_check s said ≡ None → start_check s said ≡ None → count_check s said ≡ None → IsPartial (next_statement s said)
+partial_statement s (says.Chart n) p placed small comparisons names range begins count = partial_chart s n p placed
+partial_statement s (says.Input f) p placed small comparisons names range begins count = partial_input s f p placed small names range count
+partial_statement s (says.Assume t) p placed small comparisons names range begins count = partial_assumption s t p placed.0 small placed.1 range count
+partial_statement s (says.Output f) p placed small comparisons names range begins count = partial_output s f p placed small names count
+partial_statement s (says.Memory f) p placed small comparisons names range begins count = partial_memory s f p placed small names range count
+partial_statement s (says.State f) p placed small comparisons names range begins count = partial_state s f p placed small names begins count
+partial_statement s (says.Entry f) p placed small comparisons names range begins count = partial_entry s f p small names
+partial_statement s (says.Exit f) p placed small comparisons names range begins count = partial_exit s f p small names
+partial_statement s (says.On f) p placed small comparisons names range begins count = partial_on s f p small placed comparisons names count
 
 pub partial_start : IsPartial start
 partial_start = record {
-  few_inputs = omega arith;
-  few_outputs = omega arith;
-  few_states = omega arith;
-  few_transitions = omega arith;
+  few = record { version = omega arith; inputs = omega arith; assumed = omega arith; outputs = omega arith; memories = omega arith; product = omega arith; states = omega arith; transitions = omega arith; entries = refl; exits = refl };
   ranges = All-nil HasRange;
+  assumptions = All-nil (IsAssumption 0);
   values = All-nil HasSmallValue;
+  memories = All-nil HasMemory;
+  product = refl;
   free = All-nil IsFree;
   different = λ i j d h k. absurd (omega (arith, k));
   free_states = All-nil IsFree;
   different_states = λ i j d h k. absurd (omega (arith, k));
-  one_start = omega arith;
+  tree = record { parents = λ k parent state e h. absurd (cc); depths = λ k state e. absurd (cc); starts = λ parent. omega arith };
+  entries = no_lines start [] (All-nil (λ line. line ≡ None));
+  exits = no_lines start [] (All-nil (λ line. line ≡ None));
+  moves = no_moves start start refl;
   inputs_first = λ h. refl;
-  transitions_last = λ h. refl;
-  moves = All-nil (IsMove 0 0 0);
+  outputs_later = λ h. refl;
+  memories_later = λ h. refl;
+  actions_last = λ h. record { entries = All-nil (λ line. line ≡ None); exits = All-nil (λ line. line ≡ None); transitions = refl };
 }

@@ -1,34 +1,48 @@
--- The checks of a line of a flat chart in their order, what a line declares, and what is checked at the end.
-use Rattle.std.specs.Prelude.{◌≡◌, ℕ, zero, suc, ℤ, pos, ◌-ℤ◌, Bool, true, false, not, ◌&&◌, ◌||◌, if◌then◌else◌, ◌==◌, nat_lt, nat_le, int_lt, List, [], ◌∷◌, ◌++◌, length, map, replicate, Option, Some, None, is_none, unwrap_or, option_map, Result, Ok, Err}
-use Rattle.std.specs.List.{list_any}
+-- The checks of a line of a chart in their order, what a line declares, and what is checked at the end.
+use Rattle.std.specs.Prelude.{◌≡◌, ℕ, zero, suc, ◌+◌, ◌*◌, ℤ, pos, ◌-ℤ◌, Bool, true, false, not, ◌&&◌, ◌||◌, if◌then◌else◌, ◌==◌, nat_lt, nat_le, int_lt, List, [], ◌∷◌, ◌++◌, length, map, unsigned_abs, slice_get, slice_set, Option, Some, None, is_none, is_some, unwrap_or, option_map, option_and_then, Result, Ok, Err}
+use Rattle.std.specs.List.{list_any, list_all}
+use Rattle.std.specs.Option.{option_map_or}
+use Rattle.std.specs.Ordering.{int_eq}
 use Rattle.lin_form.specs.declared.form.Comparison.{Comparison}
-use Rattle.chart_model.specs.declared.action.Action.{Action}
-use Rattle.chart_model.specs.declared.action.Place.TheVariants as place
-use Rattle.chart_model.specs.declared.guard.Guard.{Guard}
-use Rattle.chart_model.specs.declared.guard.Guard.TheVariants as guard
-use Rattle.chart_model.specs.declared.transition.Transition.{Transition}
-use Rattle.chart_syntax.specs.declared.keyword.Keyword.{Keyword}
-use Rattle.chart_syntax.specs.declared.keyword.Keyword.TheVariants as keyword
-use Rattle.chart_syntax.specs.declared.statement.Test.{Test}
-use Rattle.chart_syntax.specs.declared.statement.Assign.{Assign}
-use Rattle.chart_syntax.specs.declared.statement.OnForm.{OnForm}
-use Rattle.chart_syntax.specs.declared.statement.Statement.{Statement}
-use Rattle.chart_syntax.specs.declared.statement.Statement.TheVariants as says
-use Rattle.chart_syntax.specs.declared.statement.Sighted.{Sighted}
-use Rattle.chart_syntax.specs.declared.reader.Reader.{Reader}
-use Rattle.chart_syntax.specs.declared.error.Kind.TheVariants as kind
-use Rattle.chart_syntax.specs.declared.error.Which.{Which}
-use Rattle.chart_syntax.specs.declared.error.Which.TheVariants as which
+use Rattle.lin_form.specs.Trees.{Tree}
+use Rattle.lin_form.specs.Trees as tree
 use Rattle.line_tokens.specs.declared.error.TokenLimit.{TokenLimit}
 use Rattle.line_tokens.specs.declared.error.TokenLimit.TheVariants as token_limit
 use Rattle.line_tokens.specs.declared.error.TokenError.{TokenError}
 use Rattle.line_tokens.specs.declared.error.TokenError.TheVariants as token_error
+use Rattle.line_forms.specs.declared.keyword.Keyword.{Keyword}
+use Rattle.line_forms.specs.declared.keyword.Keyword.TheVariants as keyword
+use Rattle.line_forms.specs.declared.statement.TestForm.{TestForm}
+use Rattle.line_forms.specs.declared.statement.ActionForm.{ActionForm}
+use Rattle.line_forms.specs.declared.statement.MemoryForm.{MemoryForm}
+use Rattle.line_forms.specs.declared.statement.StateForm.{StateForm}
+use Rattle.line_forms.specs.declared.statement.ActionsForm.{ActionsForm}
+use Rattle.line_forms.specs.declared.statement.OnForm.{OnForm}
+use Rattle.line_forms.specs.declared.statement.Statement.{Statement}
+use Rattle.line_forms.specs.declared.statement.Statement.TheVariants as says
+use Rattle.line_forms.specs.declared.statement.Sighted.{Sighted}
+use Rattle.line_forms.specs.Trees as written
+use Rattle.line_forms.specs.Forms.{value_of}
+use Rattle.chart_model.specs.declared.action.Action.{Action}
+use Rattle.chart_model.specs.declared.action.Place.{Place}
+use Rattle.chart_model.specs.declared.action.Place.TheVariants as place
+use Rattle.chart_model.specs.declared.transition.Transition.{Transition}
+use Rattle.chart_syntax.specs.declared.reader.DeclaredState.{DeclaredState}
+use Rattle.chart_syntax.specs.declared.reader.Reader.{Reader}
+use Rattle.chart_syntax.specs.declared.sum.Scope.TheVariants as scope
+use Rattle.chart_syntax.specs.declared.error.Kind.TheVariants as kind
+use Rattle.chart_syntax.specs.declared.error.Which.{Which}
+use Rattle.chart_syntax.specs.declared.error.Which.TheVariants as which
 use Rattle.chart_syntax.specs.declared.error.Refusal.{Refusal}
 use Rattle.chart_syntax.specs.declared.error.Refusal.TheVariants.{Fault, Limit}
 use Rattle.chart_syntax.specs.declared.error.LineError.{LineError}
 use Rattle.chart_syntax.specs.declared.error.LineError.TheVariants as line_error
+use Rattle.chart_syntax.specs.declared.error.ChartError.{ChartError}
+use Rattle.chart_syntax.specs.declared.error.ChartError.TheVariants as chart_error
 use Rattle.chart_syntax.specs.Names.{is_declared, place_of}
-use Rattle.chart_syntax.specs.Forms.{value_of}
+use Rattle.chart_syntax.specs.Collect.{or_else, use_check, input_names, output_names, memory_names, sum_check, test_check, comparison_of, value_form_of}
+
+-- checks 1 to 4: what a line is refused for whose tokens are none, or pass a limit
 
 abbrev pub which_of : TokenLimit → Which
 which_of token_limit.Literal = which.Literal
@@ -36,125 +50,226 @@ which_of token_limit.NameBytes = which.NameBytes
 which_of token_limit.Tokens = which.Tokens
 which_of token_limit.Nesting = which.Nesting
 
--- what a line is refused for whose tokens are none, or pass a limit
 abbrev pub line_error_of : TokenError → LineError
 line_error_of token_error.Byte = line_error.Refused (Fault kind.Byte)
 line_error_of (token_error.Limit limit) = line_error.Refused (Limit (which_of limit))
 line_error_of token_error.Memory = line_error.Memory
 
+abbrev pub refused_at : ℕ → LineError → ChartError
+refused_at line (line_error.Refused (Fault kind)) = chart_error.Fault line kind
+refused_at line (line_error.Refused (Limit which)) = chart_error.Limit line which
+refused_at line line_error.Memory = chart_error.Memory
+
 -- a check of what a line says, given what the lines before it declared
 abbrev pub Check : Type 0 → Type 0
 Check L = Reader → L → Option Refusal
-
-abbrev pub or_else : Option Refusal → Option Refusal → Option Refusal
-or_else (Some refusal) other = Some refusal
-or_else None other = other
 
 -- what the first check that meets a line refuses it for
 abbrev pub first_of : {L : Type 0} → List (Check L) → Reader → L → Option Refusal
 first_of [] s l = None
 first_of (check ∷ checks) s l = or_else (check s l) (first_of checks s l)
 
-abbrev pub input_names : Reader → List (List ℕ)
-input_names s = map (λ form. form.name) s.inputs
-
-abbrev pub output_names : Reader → List (List ℕ)
-output_names s = map (λ form. form.name) s.outputs
-
 abbrev pub state_names : Reader → List (List ℕ)
-state_names s = map (λ form. form.name) s.states
+state_names s = map (λ state. state.name) s.states
 
 -- nothing is read
 abbrev pub start : Reader
-start = record { group = 0; inputs = []; outputs = []; states = []; transitions = [] }
+start = record { version = 0; group = 0; inputs = []; assumed = []; outputs = []; memories = []; product = 1; states = []; entries = []; exits = []; transitions = [] }
 
--- the group of a line by its first word: inputs, assumptions, outputs, memories, states, and what states do
-abbrev pub group_of : Option Keyword → ℕ
-group_of (Some keyword.Input) = 1
-group_of (Some keyword.Output) = 3
-group_of (Some keyword.Memory) = 4
-group_of (Some keyword.State) = 5
-group_of (Some keyword.Entry) = 6
-group_of (Some keyword.Exit) = 6
-group_of (Some keyword.On) = 6
-group_of other = 0
+-- check 5
 
 abbrev pub is_version : Option Statement → Bool
-is_version (Some (says.Chart n)) = n == 1
+is_version (Some (says.Chart n)) = n == 1 || n == 2 || n == 3
 is_version other = false
 
 -- the first line is the stated one
 abbrev pub version_check : ℕ → Option Statement → Option Refusal
-version_check before form = if before == 0 && not (is_version form) then Some (Fault kind.Version) else None
+version_check version form = if version == 0 && not (is_version form) then Some (Fault kind.Version) else None
+
+-- the group of a line by its first word, 0 where no line begins with it; in version 1 there are no assumptions
+abbrev pub group_of : ℕ → Option Keyword → ℕ
+group_of version (Some keyword.Input) = 1
+group_of version (Some keyword.Assume) = if version == 1 then 0 else 2
+group_of version (Some keyword.Output) = 3
+group_of version (Some keyword.Memory) = 4
+group_of version (Some keyword.State) = 5
+group_of version (Some keyword.Entry) = 6
+group_of version (Some keyword.Exit) = 6
+group_of version (Some keyword.On) = 6
+group_of version other = 0
 
 -- a later line begins with a word that begins lines
 abbrev pub line_check : ℕ → Option Keyword → Option Refusal
-line_check before head = if not (before == 0) && group_of head == 0 then Some (Fault kind.NoSuchLine) else None
+line_check version head = if not (version == 0) && group_of version head == 0 then Some (Fault kind.NoSuchLine) else None
 
--- and stands after no line of a later group
-abbrev pub order_check : ℕ → Option Keyword → Option Refusal
-order_check before head = if not (before == 0) && nat_lt (group_of head) before then Some (Fault kind.Misplaced) else None
+-- check 6: it stands after no line of a later group
+abbrev pub order_check : ℕ → ℕ → Option Keyword → Option Refusal
+order_check version group head = if not (version == 0) && nat_lt (group_of version head) group then Some (Fault kind.Misplaced) else None
 
-abbrev pub head_check : ℕ → Sighted → Option Refusal
-head_check before l = or_else (version_check before l.form) (or_else (line_check before l.head) (order_check before l.head))
+abbrev pub head_check : Check Sighted
+head_check s l = or_else (version_check s.version l.form) (or_else (line_check s.version l.head) (order_check s.version s.group l.head))
+
+-- check 7: the tokens derive from a form; the word `history` is one of version 3
+abbrev pub is_formed : ℕ → Option Statement → Bool
+is_formed version None = false
+is_formed version (Some (says.On f)) = not f.history || version == 3
+is_formed version (Some other) = true
 
 abbrev pub form_check : Check Sighted
-form_check s l = if is_none l.form then Some (Fault kind.Form) else None
+form_check s l = if is_formed s.version l.form then None else Some (Fault kind.Form)
+
+-- check 8
+abbrev pub comparisons_check : Check Statement
+comparisons_check s (says.On f) = if nat_lt 64 (option_map_or written.tests_of f.guard 0) then Some (Limit which.Comparisons) else None
+comparisons_check s other = None
+
+-- check 9: names from left to right
 
 -- a name is new in its space
 abbrev pub double_check : Bool → Option Refusal
 double_check declared = if declared then Some (Fault kind.Double) else None
 
--- a name is found, or has another use, or is unknown
-abbrev pub use_check : Option ℕ → Bool → Option Refusal
-use_check (Some number) other = None
-use_check None true = Some (Fault kind.Misuse)
-use_check None false = Some (Fault kind.Unknown)
+abbrev pub is_variable : Reader → List ℕ → Bool
+is_variable s name = is_declared name (input_names s) || is_declared name (output_names s) || is_declared name (memory_names s)
 
 abbrev pub state_check : Reader → List ℕ → Option Refusal
 state_check s name = use_check (place_of name (state_names s)) false
 
-abbrev pub test_check : Reader → Option Test → Option Refusal
-test_check s None = None
-test_check s (Some t) = use_check (place_of t.name (input_names s)) (is_declared t.name (output_names s))
+-- the state after `in`, where there is one
+abbrev pub some_state_check : Reader → Option (List ℕ) → Option Refusal
+some_state_check s None = None
+some_state_check s (Some name) = state_check s name
 
-abbrev pub assign_check : Reader → Assign → Option Refusal
-assign_check s a = use_check (place_of a.name (output_names s)) (is_declared a.name (input_names s))
+-- an action assigns a memory or an output
+abbrev pub place_in : Option ℕ → Option ℕ → Option Place
+place_in (Some j) output = Some (place.Memory j)
+place_in None (Some k) = Some (place.Output k)
+place_in None None = None
 
-abbrev pub effect_check : Reader → List Assign → Option Refusal
-effect_check s [] = None
-effect_check s (a ∷ more) = or_else (assign_check s a) (effect_check s more)
+abbrev pub place_of_name : Reader → List ℕ → Option Place
+place_of_name s name = place_in (place_of name (memory_names s)) (place_of name (output_names s))
 
-abbrev pub target_check : Reader → Option (List ℕ) → Option Refusal
-target_check s None = None
-target_check s (Some name) = state_check s name
+abbrev pub place_check : Reader → List ℕ → Option Refusal
+place_check s name = use_check (place_of_name s name) (is_declared name (input_names s))
 
--- names from left to right
+abbrev pub action_check : Reader → ActionForm → Option Refusal
+action_check s a = or_else (place_check s a.name) (sum_check s scope.Action a.sum)
+
+abbrev pub actions_check : Reader → List ActionForm → Option Refusal
+actions_check s [] = None
+actions_check s (a ∷ more) = or_else (action_check s a) (actions_check s more)
+
+abbrev pub guard_check : Reader → written.Tree → Option Refusal
+guard_check s (written.test t) = test_check s scope.Guard t
+guard_check s (written.not g) = guard_check s g
+guard_check s (written.and g h) = or_else (guard_check s g) (guard_check s h)
+guard_check s (written.or g h) = or_else (guard_check s g) (guard_check s h)
+
+abbrev pub when_check : Reader → Option written.Tree → Option Refusal
+when_check s None = None
+when_check s (Some g) = guard_check s g
+
+-- a state is the parent of one
+abbrev pub is_child_of : ℕ → DeclaredState → Bool
+is_child_of k state = option_map_or (λ parent. parent == k) state.parent false
+
+abbrev pub is_parent : Reader → ℕ → Bool
+is_parent s k = list_any (is_child_of k) s.states
+
+-- the target is a state, and one with children before the word `history`
+abbrev pub found_target_check : Reader → Option ℕ → Bool → Option Refusal
+found_target_check s None history = Some (Fault kind.Unknown)
+found_target_check s (Some k) history = if history && not (is_parent s k) then Some (Fault kind.Misuse) else None
+
+abbrev pub target_check : Reader → Option (List ℕ) → Bool → Option Refusal
+target_check s None history = None
+target_check s (Some name) history = found_target_check s (place_of name (state_names s)) history
+
 abbrev pub names_check : Check Statement
 names_check s (says.Chart n) = None
-names_check s (says.Input f) = double_check (is_declared f.name (input_names s) || is_declared f.name (output_names s))
-names_check s (says.Output f) = double_check (is_declared f.name (input_names s) || is_declared f.name (output_names s))
-names_check s (says.State f) = double_check (is_declared f.name (state_names s))
-names_check s (says.On f) = or_else (state_check s f.source) (or_else (test_check s f.test) (or_else (effect_check s f.effect) (target_check s f.target)))
+names_check s (says.Input f) = double_check (is_variable s f.name)
+names_check s (says.Assume t) = test_check s scope.Assumption t
+names_check s (says.Output f) = double_check (is_variable s f.name)
+names_check s (says.Memory f) = double_check (is_variable s f.name)
+names_check s (says.State f) = or_else (double_check (is_declared f.name (state_names s))) (some_state_check s f.parent)
+names_check s (says.Entry f) = or_else (state_check s f.state) (actions_check s f.actions)
+names_check s (says.Exit f) = or_else (state_check s f.state) (actions_check s f.actions)
+names_check s (says.On f) = or_else (state_check s f.source) (or_else (when_check s f.guard) (or_else (actions_check s f.effect) (target_check s f.target f.history)))
+
+-- check 10: a range has a number, a memory's value lies in its range, and an assumption speaks of an input
+
+abbrev pub is_outside : MemoryForm → Bool
+is_outside f = int_lt (value_of f.hi) (value_of f.lo) || int_lt (value_of f.value) (value_of f.lo) || int_lt (value_of f.hi) (value_of f.value)
+
+abbrev pub is_zero : ℤ → Bool
+is_zero z = int_eq z (pos 0)
+
+abbrev pub is_constant : Comparison → Bool
+is_constant comparison = list_all is_zero comparison.form.inputs
 
 abbrev pub range_check : Check Statement
 range_check s (says.Input f) = if int_lt (value_of f.hi) (value_of f.lo) then Some (Fault kind.Range) else None
+range_check s (says.Assume t) = if is_constant (comparison_of s scope.Assumption t) then Some (Fault kind.Range) else None
+range_check s (says.Memory f) = if is_outside f then Some (Fault kind.Range) else None
 range_check s other = None
 
+-- check 11: one start child of each parent, one start without a parent, and one entry and one exit line of each state
+
+abbrev pub same_parent : Option ℕ → Option ℕ → Bool
+same_parent None None = true
+same_parent (Some j) (Some k) = j == k
+same_parent a b = false
+
+-- the state is the one that is entered where its parent, or the chart, is
+abbrev pub is_start_under : Option ℕ → DeclaredState → Bool
+is_start_under parent state = state.start && same_parent state.parent parent
+
+-- the number of the first declaration of a name that is declared
+abbrev pub number_of : List ℕ → List (List ℕ) → ℕ
+number_of name names = unwrap_or (place_of name names) 0
+
+-- the number of the parent, where there is one
+abbrev pub parent_number : Reader → Option (List ℕ) → Option ℕ
+parent_number s name = option_and_then (λ parent. place_of parent (state_names s)) name
+
+-- a state has its line already
+abbrev pub has_line : List (Option (List Action)) → ℕ → Bool
+has_line lines k = option_map_or is_some (slice_get lines k) false
+
 abbrev pub start_check : Check Statement
-start_check s (says.State f) = if f.start && list_any (λ form. form.start) s.states then Some (Fault kind.Start) else None
+start_check s (says.State f) = if f.start && list_any (is_start_under (parent_number s f.parent)) s.states then Some (Fault kind.Start) else None
+start_check s (says.Entry f) = if has_line s.entries (number_of f.state (state_names s)) then Some (Fault kind.Twice) else None
+start_check s (says.Exit f) = if has_line s.exits (number_of f.state (state_names s)) then Some (Fault kind.Twice) else None
 start_check s other = None
+
+-- check 12: counts
+
+abbrev pub memory_size : MemoryForm → ℕ
+memory_size f = unsigned_abs (value_of f.hi -ℤ value_of f.lo) + 1
+
+abbrev pub is_bounded : MemoryForm → Bool
+is_bounded f = nat_le (unsigned_abs (value_of f.lo)) 1000 && nat_le (unsigned_abs (value_of f.hi)) 1000
+
+abbrev pub depth_under : Reader → Option ℕ → ℕ
+depth_under s parent = option_map_or (λ above. above.depth) (option_and_then (slice_get s.states) parent) 0 + 1
+
+abbrev pub limit_check : Bool → Which → Option Refusal
+limit_check passed limit = if passed then Some (Limit limit) else None
 
 abbrev pub count_check : Check Statement
 count_check s (says.Chart n) = None
-count_check s (says.Input f) = if nat_le 6 (length s.inputs) then Some (Limit which.Inputs) else None
-count_check s (says.Output f) = if nat_le 8 (length s.outputs) then Some (Limit which.Outputs) else None
-count_check s (says.State f) = if nat_le 64 (length s.states) then Some (Limit which.States) else None
-count_check s (says.On f) = if nat_le 256 (length s.transitions) then Some (Limit which.Transitions) else None
+count_check s (says.Input f) = limit_check (nat_le 6 (length s.inputs)) which.Inputs
+count_check s (says.Assume t) = limit_check (nat_le 16 (length s.assumed)) which.Assumptions
+count_check s (says.Output f) = limit_check (nat_le 8 (length s.outputs)) which.Outputs
+count_check s (says.Memory f) = or_else (limit_check (nat_le 4 (length s.memories)) which.Memories) (or_else (limit_check (not (is_bounded f)) which.Bound) (limit_check (nat_lt 256 (s.product * memory_size f)) which.Product))
+count_check s (says.State f) = or_else (limit_check (nat_le 64 (length s.states)) which.States) (limit_check (nat_lt 8 (depth_under s (parent_number s f.parent))) which.Depth)
+count_check s (says.Entry f) = None
+count_check s (says.Exit f) = None
+count_check s (says.On f) = limit_check (nat_le 256 (length s.transitions)) which.Transitions
 
 -- the checks of what a line says
 abbrev pub statement_checks : List (Check Statement)
-statement_checks = names_check ∷ range_check ∷ start_check ∷ count_check ∷ []
+statement_checks = comparisons_check ∷ names_check ∷ range_check ∷ start_check ∷ count_check ∷ []
 
 abbrev pub on_some : Check Statement → Reader → Option Statement → Option Refusal
 on_some check s None = None
@@ -166,57 +281,44 @@ on_form check s l = on_some check s l.form
 
 -- all checks of a line with tokens, in their order
 abbrev pub checks : List (Check Sighted)
-checks = (λ s. head_check s.group) ∷ form_check ∷ on_form names_check ∷ on_form range_check ∷ on_form start_check ∷ on_form count_check ∷ []
+checks = head_check ∷ form_check ∷ on_form comparisons_check ∷ on_form names_check ∷ on_form range_check ∷ on_form start_check ∷ on_form count_check ∷ []
 
--- so many numbers, all 0
-abbrev pub zeros : ℕ → List ℤ
-zeros n = replicate n (pos 0)
+-- what a line declares
 
--- so many numbers, all 0 but for a 1 at this place
-abbrev pub unit : ℕ → ℕ → List ℤ
-unit zero i = []
-unit (suc n) zero = pos 1 ∷ zeros n
-unit (suc n) (suc i) = pos 0 ∷ unit n i
+abbrev pub guard_of : Reader → written.Tree → Tree Comparison
+guard_of s (written.test t) = tree.test (comparison_of s scope.Guard t)
+guard_of s (written.not g) = tree.not (guard_of s g)
+guard_of s (written.and g h) = tree.and (guard_of s g) (guard_of s h)
+guard_of s (written.or g h) = tree.or (guard_of s g) (guard_of s h)
 
--- the number of the first declaration of a name that is declared
-abbrev pub number_of : List ℕ → List (List ℕ) → ℕ
-number_of name names = unwrap_or (place_of name names) 0
+abbrev pub action_of : Reader → ActionForm → Action
+action_of s a = record { place = unwrap_or (place_of_name s a.name) (place.Output 0); value = value_form_of s a.sum }
 
--- NAME OP NUMBER is the sum of the left side minus the right side, compared with 0
-abbrev pub comparison_of : Reader → Test → Comparison
-comparison_of s t = record {
-  form = record { inputs = unit (length s.inputs) (number_of t.name (input_names s)); memory = zeros 4; constant = pos 0 -ℤ value_of t.bound };
-  relation = t.relation;
-}
-
-abbrev pub guard_of : Reader → Option Test → Option Guard
-guard_of s None = None
-guard_of s (Some t) = Some (guard.Test (comparison_of s t))
-
-abbrev pub action_of : Reader → Assign → Action
-action_of s a = record {
-  place = place.Output (number_of a.name (output_names s));
-  value = record { inputs = zeros (length s.inputs); memory = zeros 4; constant = value_of a.value };
-}
-
-abbrev pub target_of : Reader → Option (List ℕ) → Option ℕ
-target_of s name = option_map (λ target. number_of target (state_names s)) name
+abbrev pub actions_of : Reader → List ActionForm → List Action
+actions_of s actions = map (action_of s) actions
 
 abbrev pub transition_of : Reader → OnForm → Transition
 transition_of s f = record {
   source = number_of f.source (state_names s);
-  guard = guard_of s f.test;
-  effect = map (action_of s) f.effect;
-  target = target_of s f.target;
-  history = false;
+  guard = option_map (guard_of s) f.guard;
+  effect = actions_of s f.effect;
+  target = option_map (λ name. number_of name (state_names s)) f.target;
+  history = f.history;
 }
+
+abbrev pub declared_state : Reader → StateForm → DeclaredState
+declared_state s f = record { name = f.name; parent = parent_number s f.parent; start = f.start; depth = depth_under s (parent_number s f.parent) }
 
 -- what is declared after a line
 abbrev pub next_statement : Reader → Statement → Reader
-next_statement s (says.Chart n) = record s { group = 1 }
+next_statement s (says.Chart n) = record s { version = n }
 next_statement s (says.Input f) = record s { group = 1; inputs = s.inputs ++ f ∷ [] }
+next_statement s (says.Assume t) = record s { group = 2; assumed = s.assumed ++ comparison_of s scope.Assumption t ∷ [] }
 next_statement s (says.Output f) = record s { group = 3; outputs = s.outputs ++ f ∷ [] }
-next_statement s (says.State f) = record s { group = 5; states = s.states ++ f ∷ [] }
+next_statement s (says.Memory f) = record s { group = 4; memories = s.memories ++ f ∷ []; product = s.product * memory_size f }
+next_statement s (says.State f) = record s { group = 5; states = s.states ++ declared_state s f ∷ []; entries = s.entries ++ None ∷ []; exits = s.exits ++ None ∷ [] }
+next_statement s (says.Entry f) = record s { group = 6; entries = slice_set s.entries (number_of f.state (state_names s)) (Some (actions_of s f.actions)) }
+next_statement s (says.Exit f) = record s { group = 6; exits = slice_set s.exits (number_of f.state (state_names s)) (Some (actions_of s f.actions)) }
 next_statement s (says.On f) = record s { group = 6; transitions = s.transitions ++ transition_of s f ∷ [] }
 
 abbrev pub next_form : Reader → Option Statement → Reader
@@ -227,10 +329,23 @@ abbrev pub next : Reader → Sighted → Reader
 next s l = next_form s l.form
 
 -- what is checked where the text ends
+
+-- no state without a parent is marked `start`
+abbrev pub lacks_top_start : Reader → Bool
+lacks_top_start s = not (list_any (is_start_under None) s.states)
+
+-- the parent of a state has no start child
+abbrev pub lacks_start : List DeclaredState → DeclaredState → Bool
+lacks_start states state = is_some state.parent && not (list_any (is_start_under state.parent) states)
+
+abbrev pub lacks_start_child : Reader → Bool
+lacks_start_child s = list_any (lacks_start s.states) s.states
+
+abbrev pub is_missing : Reader → Bool
+is_missing s = length s.inputs == 0 || length s.outputs == 0 || length s.states == 0 || lacks_top_start s || lacks_start_child s
+
 abbrev pub end_check : Reader → Option Refusal
-end_check s =
-    if s.group == 0 then Some (Fault kind.Version) else
-    if length s.inputs == 0 || length s.outputs == 0 || length s.states == 0 || not (list_any (λ form. form.start) s.states) then Some (Fault kind.Missing) else None
+end_check s = if s.version == 0 then Some (Fault kind.Version) else if is_missing s then Some (Fault kind.Missing) else None
 
 -- what a function answers that takes a line: it passes the checks and is taken, or this is the first refusal
 abbrev pub Takes : {L : Type 0} → List (Check L) → (Reader → L → Reader) → Reader → Reader → L → Result (Unit {0}) LineError → Type 0
@@ -244,8 +359,8 @@ Passes check (Ok u) = check ≡ None
 Passes check (Err (line_error.Refused refusal)) = check ≡ Some refusal
 Passes check (Err line_error.Memory) = Unit {0}
 
--- what a function answers that resolves a part of a line: it passes its check and this is its content, or its refusal
-abbrev pub Answers : {T : Type 0} → Option Refusal → T → Result T LineError → Type 0
-Answers check content (Ok x) = (check ≡ None) × (x ≡ content)
-Answers check content (Err (line_error.Refused refusal)) = check ≡ Some refusal
-Answers check content (Err line_error.Memory) = Unit {0}
+-- what a function answers that resolves a part of a line to a value that is seen in another way
+abbrev pub Resolves : {T : Type 0} {V : Type 0} → (T → V) → Option Refusal → V → Result T LineError → Type 0
+Resolves seen check content (Ok x) = (check ≡ None) × (seen x ≡ content)
+Resolves seen check content (Err (line_error.Refused refusal)) = check ≡ Some refusal
+Resolves seen check content (Err line_error.Memory) = Unit {0}

@@ -1,41 +1,57 @@
--- What a text reads as, where it is a flat chart: one without memories, nesting, assumptions, entry and exit lines, whose
--- guards compare one input with a number and whose actions assign numbers.
-use Rattle.std.specs.Prelude.{◌≡◌, ℕ, ℤ, List, [], ◌∷◌, map, None, ◌⊎◌}
+-- What a text reads as, where it is a chart, and the first line and the first check that refuses it, where it is none.
+use Rattle.std.specs.Prelude.{◌≡◌, ℕ, ◌+◌, ℤ, List, [], ◌∷◌, length, map, Option, Some, None, Result, Ok, Err, unwrap_or}
 use Rattle.lin_form.specs.declared.input.Input.{Input}
+use Rattle.chart_model.specs.declared.action.Action.{Action}
 use Rattle.chart_model.specs.declared.chart.Chart.{Chart}
+use Rattle.chart_model.specs.declared.state.Memory.{Memory}
 use Rattle.chart_model.specs.declared.state.State.{State}
+use Rattle.line_tokens.specs.declared.error.TokenError.{TokenError}
 use Rattle.line_tokens.specs.Lines.{lines_of}
-use Rattle.chart_syntax.specs.declared.lexeme.Lexeme.{Lexeme}
-use Rattle.chart_syntax.specs.declared.statement.InputForm.{InputForm}
-use Rattle.chart_syntax.specs.declared.statement.StateForm.{StateForm}
-use Rattle.chart_syntax.specs.declared.statement.Sighted.{Sighted}
+use Rattle.line_tokens.specs.Limits.{IsRefused}
+use Rattle.line_forms.specs.declared.statement.InputForm.{InputForm}
+use Rattle.line_forms.specs.declared.statement.MemoryForm.{MemoryForm}
+use Rattle.line_forms.specs.declared.statement.Sighted.{Sighted}
+use Rattle.line_forms.specs.Forms.{IsSighted, value_of}
+use Rattle.line_forms.specs.Views.{IsView}
+use Rattle.chart_syntax.specs.declared.reader.DeclaredState.{DeclaredState}
 use Rattle.chart_syntax.specs.declared.reader.Reader.{Reader}
+use Rattle.chart_syntax.specs.declared.error.Refusal.{Refusal}
+use Rattle.chart_syntax.specs.declared.error.Refusal.TheVariants.{Fault, Limit}
+use Rattle.chart_syntax.specs.declared.error.LineError.{LineError}
+use Rattle.chart_syntax.specs.declared.error.LineError.TheVariants as line_error
 use Rattle.chart_syntax.specs.declared.error.ChartError.{ChartError}
 use Rattle.chart_syntax.specs.declared.error.ChartError.TheVariants as chart_error
-use Rattle.chart_syntax.specs.declared.error.Kind.TheVariants as kind
-use Rattle.chart_syntax.specs.Lexemes.{IsLexed}
-use Rattle.chart_syntax.specs.Forms.{IsSighted, value_of}
-use Rattle.chart_syntax.specs.Checks.{checks, first_of, next, start, end_check}
+use Rattle.chart_syntax.specs.Checks.{checks, first_of, next, start, end_check, line_error_of}
 
--- a line passes its checks, and what is declared after it; a blank line declares nothing
-abbrev pub PassesTo : Reader → List Lexeme → Reader → Type 0
-PassesTo s [] t = t ≡ s
-PassesTo s (x ∷ xs) t = (sighted : Sighted) × IsSighted (x ∷ xs) sighted × (first_of checks s sighted ≡ None) × (t ≡ next s sighted)
+abbrev pub refusal_in : LineError → Option Refusal
+refusal_in (line_error.Refused refusal) = Some refusal
+refusal_in line_error.Memory = None
 
--- a line of bytes is read, given what the lines before it declared
-pub record ReadsLine (s : Reader) (line : List ℕ) (t : Reader) : Type 0 where
-  pub lexemes : List Lexeme
-  pub lexed : IsLexed line lexemes
-  pub passes : PassesTo s lexemes t
+-- what refuses a line that is seen as this, given what the lines before it declared; a blank line is refused for its bytes alone
+abbrev pub view_check : Reader → Result (Option Sighted) TokenError → Option Refusal
+view_check s (Err error) = refusal_in (line_error_of error)
+view_check s (Ok None) = None
+view_check s (Ok (Some sighted)) = first_of checks s sighted
 
--- lines are read one after another
-abbrev pub ReadsLines : Reader → List (List ℕ) → Reader → Type 0
-ReadsLines s [] t = t ≡ s
-ReadsLines s (line ∷ lines) t = (u : Reader) × ReadsLine s line u × ReadsLines u lines t
+-- what is declared after the line; a blank line declares nothing
+abbrev pub next_view : Reader → Result (Option Sighted) TokenError → Reader
+next_view s (Err error) = s
+next_view s (Ok None) = s
+next_view s (Ok (Some sighted)) = next s sighted
 
--- a state without parent, entry and exit actions
-abbrev pub flat_state : StateForm → State
-flat_state form = record { name = form.name; parent = None; start = form.start; entry = []; exit = [] }
+abbrev pub actions_of_line : Option (List Action) → List Action
+actions_of_line line = unwrap_or line []
+
+-- the states with their entry and exit actions
+abbrev pub states_of : List DeclaredState → List (Option (List Action)) → List (Option (List Action)) → List State
+states_of [] entries exits = []
+states_of (state ∷ states) [] exits = []
+states_of (state ∷ states) (entry ∷ entries) [] = []
+states_of (state ∷ states) (entry ∷ entries) (exit ∷ exits) =
+    record { name = state.name; parent = state.parent; start = state.start; entry = actions_of_line entry; exit = actions_of_line exit } ∷ states_of states entries exits
+
+abbrev pub memory_of : MemoryForm → Memory
+memory_of form = record { name = form.name; lo = value_of form.lo; hi = value_of form.hi; initial = value_of form.value }
 
 abbrev pub bounds_of_input : Input → List ℕ × ℤ × ℤ
 bounds_of_input input = (input.name, input.lo, input.hi)
@@ -48,18 +64,61 @@ pub record IsContent (s : Reader) (chart : Chart) : Type 0 where
   pub inputs : map bounds_of_input chart.signature.inputs ≡ map bounds_of_form s.inputs
   pub outputs : chart.signature.outputs ≡ map (λ form. form.name) s.outputs
   pub initial : chart.initial ≡ map (λ form. value_of form.value) s.outputs
-  pub assumed : chart.assumed ≡ []
-  pub memories : chart.memories ≡ []
-  pub states : chart.states ≡ map flat_state s.states
+  pub assumed : chart.assumed ≡ s.assumed
+  pub memories : chart.memories ≡ map memory_of s.memories
+  pub states : chart.states ≡ states_of s.states s.entries s.exits
   pub transitions : chart.transitions ≡ s.transitions
 
--- the text is a flat chart, and this is the chart
-pub record ReadsFlat (text : List ℕ) (chart : Chart) : Type 0 where
-  pub declared : Reader
-  pub lines : ReadsLines start (lines_of text) declared
-  pub complete : end_check declared ≡ None
-  pub content : IsContent declared chart
+-- the lines pass their checks one after another, the end is reached, and the chart has what they declare
+abbrev pub ReadsFrom : Reader → List (List ℕ) → Chart → Type 0
+ReadsFrom s [] chart = (end_check s ≡ None) × IsContent s chart
+ReadsFrom s (line ∷ lines) chart = (view : Result (Option Sighted) TokenError) × IsView IsSighted line view × (view_check s view ≡ None) × ReadsFrom (next_view s view) lines chart
 
--- the one refusal, or no memory
-abbrev pub IsNotYet : ChartError → Type 0
-IsNotYet e = (e ≡ chart_error.Fault 1 kind.NotYet) ⊎ (e ≡ chart_error.Memory)
+-- the text is a chart, and this is the chart
+abbrev pub Reads : List ℕ → Chart → Type 0
+Reads text chart = ReadsFrom start (lines_of text) chart
+
+-- a check meets the line with number n, or none does and what is said of the later lines holds
+abbrev pub IsMet : Option Refusal → ℕ → ℕ → Refusal → Type 0 → Type 0
+IsMet (Some met) n m refusal later = (m ≡ n) × (refusal ≡ met)
+IsMet None n m refusal later = later
+
+-- the first line that a check meets, or the end, has the number m, where the lines are counted from n
+abbrev pub RefusesFrom : Reader → ℕ → List (List ℕ) → ℕ → Refusal → Type 0
+RefusesFrom s n [] m refusal = (m ≡ n) × (end_check s ≡ Some refusal)
+RefusesFrom s n (line ∷ lines) m refusal = (view : Result (Option Sighted) TokenError) × IsView IsSighted line view
+    × IsMet (view_check s view) n m refusal (RefusesFrom (next_view s view) (n + 1) lines m refusal)
+
+-- the text is no chart: of the line with this number, from 1, the first check that meets a line refuses it; what is
+-- missing at the end has the number after the last line's
+abbrev pub Refuses : List ℕ → ℕ → Refusal → Type 0
+Refuses text line refusal = RefusesFrom start 1 (lines_of text) line refusal
+
+-- the error tells why a text is refused, or that there was no memory
+abbrev pub IsRefusedBy : (ℕ → Refusal → Type 0) → ChartError → Type 0
+IsRefusedBy refuses (chart_error.Fault line kind) = refuses line (Fault kind)
+IsRefusedBy refuses (chart_error.Limit line which) = refuses line (Limit which)
+IsRefusedBy refuses chart_error.Memory = Unit {0}
+
+-- what a function answers that takes a line of bytes: it is taken, or this refuses it
+abbrev pub TakesLine : Reader → Reader → List ℕ → Result (Unit {0}) LineError → Type 0
+TakesLine old new line (Ok u) = (view : Result (Option Sighted) TokenError) × IsView IsSighted line view × (view_check old view ≡ None) × (new ≡ next_view old view)
+TakesLine old new line (Err (line_error.Refused refusal)) = (view : Result (Option Sighted) TokenError) × IsView IsSighted line view × (view_check old view ≡ Some refusal)
+TakesLine old new line (Err line_error.Memory) = Unit {0}
+
+-- the tokens of the line are none, or pass a limit, as line 1 of a text
+pub record IsTokenRefusal (line : List ℕ) (n : ℕ) (refusal : Refusal) : Type 0 where
+  pub error : TokenError
+  pub place : n ≡ 1
+  pub refused : IsRefused line error
+  pub is : refusal_in (line_error_of error) ≡ Some refusal
+
+-- what the lines that are read so far leave to be read
+pub record IsSoFar (text rest : List ℕ) (s : Reader) (n : ℕ) : Type 0 where
+  pub back : (chart : Chart) → ReadsFrom s (lines_of rest) chart → Reads text chart
+  pub refused : (m : ℕ) (refusal : Refusal) → RefusesFrom s n (lines_of rest) m refusal → Refuses text m refusal
+
+-- what a function answers that reads the lines of a text: what is left to check at the end, or a refusal
+abbrev pub ReadsLines : List ℕ → Result (Reader × ℕ) ChartError → Type 0
+ReadsLines text (Ok r) = IsSoFar text [] r.0 r.1
+ReadsLines text (Err error) = IsRefusedBy (Refuses text) error

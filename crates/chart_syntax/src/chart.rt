@@ -1,14 +1,14 @@
 ghost use Rattle.std.specs.Prelude.{◌≡◌, ◌≤◌, length, map, None, All, IfOk};
-ghost use Rattle.chart_syntax.specs.Forms.{value_of};
+ghost use Rattle.line_forms.specs.Forms.{value_of};
 ghost use Rattle.chart_syntax.specs.Checks.{end_check};
 ghost use Rattle.chart_syntax.specs.Promises.{IsPartial, HasRange};
-ghost use Rattle.chart_syntax.specs.Reading.{IsContent, bounds_of_input, bounds_of_form, flat_state};
+ghost use Rattle.chart_syntax.specs.Reading.{IsContent, bounds_of_input, bounds_of_form, memory_of, states_of, actions_of_line};
 
-use crate::reader::Reader;
-use crate::statement::{InputForm, OutputForm, StateForm};
+use crate::reader::{DeclaredState, Reader};
 use crate::take::value;
-use chart_model::{Chart, State};
+use chart_model::{Action, Chart, Memory, State};
 use lin_form::{Input, Inputs, Names, Reply, Signature};
+use line_forms::{InputForm, MemoryForm, OutputForm};
 use sqlite_items::Items;
 use std::alloc::{AllocError, Global};
 
@@ -55,17 +55,57 @@ fn initial(alloc: Global, forms: &[OutputForm]) -> Result<Reply, AllocError>
     Ok(Reply::from_slice(values.as_slice()))
 }
 
-fn states(alloc: Global, forms: &[StateForm]) -> Result<Items<State>, AllocError>
-    ensures { IfOk result (λ states. states ≡ map flat_state forms.now) }
+fn memories(alloc: Global, forms: &[MemoryForm]) -> Result<Items<Memory>, AllocError>
+    ensures { IfOk result (λ memories. memories ≡ map memory_of forms.now) }
+{
+    let mut memories = Items::new(alloc);
+    'memories: for form in forms {
+        let memory = Memory {
+            name: form.name,
+            lo: value(form.lo),
+            hi: value(form.hi),
+            initial: value(form.value),
+        };
+        if memories.push(memory).is_err() {
+            return Err(AllocError);
+        }
+    }
+    Ok(memories)
+}
+
+/// The actions of a line on entry or exit, none where there was no line.
+fn line_actions(alloc: Global, line: Option<Items<Action>>) -> Items<Action>
+    ensures { result ≡ actions_of_line line }
+{
+    match line {
+        Some(actions) => actions,
+        None => Items::new(alloc),
+    }
+}
+
+/// The states with their actions, the last of which stand last in the lists of lines.
+fn states(
+    alloc: Global,
+    declared: &[DeclaredState],
+    entries: Items<Option<Items<Action>>>,
+    exits: Items<Option<Items<Action>>>,
+) -> Result<Items<State>, AllocError>
+    requires entries { length entries ≡ length declared.now }
+    requires exits { length exits ≡ length declared.now }
+    ensures { IfOk result (λ states. states ≡ states_of declared.now entries exits) }
 {
     let mut states = Items::new(alloc);
-    'states: for form in forms {
+    let mut entries = entries;
+    let mut exits = exits;
+    'states: for state in declared {
+        let entry = line_actions(alloc, entries.remove(0));
+        let exit = line_actions(alloc, exits.remove(0));
         let state = State {
-            name: form.name,
-            parent: None,
-            start: form.start,
-            entry: Items::new(alloc),
-            exit: Items::new(alloc),
+            name: state.name,
+            parent: state.parent,
+            start: state.start,
+            entry,
+            exit,
         };
         if states.push(state).is_err() {
             return Err(AllocError);
@@ -80,16 +120,30 @@ pub fn chart(alloc: Global, reader: Reader) -> Result<Chart, AllocError>
     requires complete { end_check reader ≡ None }
     ensures { IfOk result (IsContent reader) }
 {
-    let inputs = inputs(alloc, reader.inputs.as_slice())?;
-    let outputs = names(alloc, reader.outputs.as_slice())?;
-    let initial = initial(alloc, reader.outputs.as_slice())?;
-    let states = states(alloc, reader.states.as_slice())?;
+    let Reader {
+        version: _,
+        group: _,
+        inputs: input_forms,
+        assumed,
+        outputs: output_forms,
+        memories: memory_forms,
+        product: _,
+        states: declared,
+        entries,
+        exits,
+        transitions,
+    } = reader;
+    let inputs = inputs(alloc, input_forms.as_slice())?;
+    let outputs = names(alloc, output_forms.as_slice())?;
+    let initial = initial(alloc, output_forms.as_slice())?;
+    let memories = memories(alloc, memory_forms.as_slice())?;
+    let states = states(alloc, declared.as_slice(), entries, exits)?;
     Ok(Chart {
         signature: Signature { inputs, outputs },
         initial,
-        assumed: Items::new(alloc),
-        memories: Items::new(alloc),
+        assumed,
+        memories,
         states,
-        transitions: reader.transitions,
+        transitions,
     })
 }

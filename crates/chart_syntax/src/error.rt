@@ -1,4 +1,5 @@
 ghost use Rattle.std.specs.Prelude.{◌≡◌};
+ghost use Rattle.chart_syntax.specs.Checks.{refused_at};
 
 use thiserror::Error;
 
@@ -31,8 +32,6 @@ pub enum Kind {
     OutOfBox,
     /// An input, output, state or start that must be there is not.
     Missing,
-    /// The text is none that is read yet.
-    NotYet,
 }
 
 /// The limit that a line passes.
@@ -80,20 +79,27 @@ pub enum LineError {
     Memory,
 }
 
-/// Why the tokens of a line give no value.
-#[derive(Debug, Drop)]
-pub enum FormError {
-    /// They derive from no form.
-    Form,
-    Memory,
+/// That a line is refused for a fault.
+pub fn fault(kind: Kind) -> LineError
+    ensures { result ≡ LineError.Refused (Refusal.Fault kind) }
+{
+    LineError::Refused(Refusal::Fault(kind))
 }
 
-/// The answer for a text that does not read.
-pub fn not_yet() -> ChartError
-    ensures { result ≡ ChartError.Fault 1 Kind.NotYet }
+/// That a line passes a limit.
+pub fn limit(which: Which) -> LineError
+    ensures { result ≡ LineError.Refused (Refusal.Limit which) }
 {
-    ChartError::Fault {
-        line: 1,
-        kind: Kind::NotYet,
+    LineError::Refused(Refusal::Limit(which))
+}
+
+/// Why a text is refused whose line with this number is not taken.
+pub fn at_line(line: usize, error: LineError) -> ChartError
+    ensures { result ≡ refused_at line error }
+{
+    match error {
+        LineError::Refused(Refusal::Fault(kind)) => ChartError::Fault { line, kind },
+        LineError::Refused(Refusal::Limit(which)) => ChartError::Limit { line, which },
+        LineError::Memory => ChartError::Memory,
     }
 }

@@ -1,23 +1,26 @@
 //! Charts and words as texts: what a text reads as, by its lines and their tokens.
 #![tactic(auto)]
 
+mod action;
 mod chart;
 mod error;
-mod form;
-mod keyword;
-mod lexeme;
-mod line;
+mod guard;
 mod names;
 mod reader;
-mod statement;
+mod scan;
+mod state;
+mod sum;
 mod table;
 mod take;
 #[cfg(test)]
 mod tests;
 mod text;
+mod transition;
 mod word;
 
-pub use chart_model::{Action, Chart, Guard, Memory, Place, State, Transition};
+pub use chart_model::{Action, Chart, Condition, Guard, Memory, Place, State, Transition};
 pub use error::{ChartError, Kind, Which};
+pub use line_tokens::{Token, Word};
+pub use scan::tokens;
 pub use text::read_chart;
 pub use word::read_word;

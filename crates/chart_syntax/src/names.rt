@@ -1,6 +1,6 @@
-use crate::statement::{InputForm, OutputForm, StateForm};
 use crate::table::Named;
 use lin_form::Name;
+use line_forms::{InputForm, MemoryForm, OutputForm};
 
 impl Named for InputForm {
     ghost name_of = { λ form. form.name };
@@ -18,7 +18,7 @@ impl Named for OutputForm {
     }
 }
 
-impl Named for StateForm {
+impl Named for MemoryForm {
     ghost name_of = { λ form. form.name };
 
     fn name(&self) -> Name {

@@ -1,42 +1,35 @@
-ghost use Rattle.std.specs.Prelude.{◌≡◌, ◌≤◌, ◌&&◌, ◌||◌, ◌<◌, ◌^◌, length, false, map, unsigned_abs, Some, None, MatchBool, OnOk, IfOk};
+ghost use Rattle.std.specs.Prelude.{◌≡◌, ◌≤◌, ◌<◌, ◌^◌, ◌&&◌, ◌||◌, length, unsigned_abs, Some, None, IfOk, MatchBool};
 ghost use Rattle.std.specs.List.{list_any};
-ghost use Rattle.chart_syntax.specs.declared.statement.Statement.TheVariants as says;
-ghost use Rattle.chart_syntax.specs.Forms.{value_of};
-ghost use Rattle.chart_syntax.specs.Checks.{Takes, Answers, checks, statement_checks, next, next_statement, group_of, is_version, double_check, use_check, state_check, state_names, input_names, output_names, test_check, assign_check, effect_check, target_check, names_check, number_of, zeros, unit, comparison_of, guard_of, action_of, transition_of, target_of, Passes, head_check};
-ghost use Rattle.chart_syntax.specs.Names.{place_of};
+ghost use Rattle.line_forms.specs.declared.statement.Statement.TheVariants as says;
+ghost use Rattle.line_forms.specs.Forms.{value_of};
+ghost use Rattle.line_forms.specs.Limits.{IsSmallNumber, IsSmallStatement, IsSmallSight, IsSmallOn};
+ghost use Rattle.line_forms.specs.Trees as written;
+ghost use Rattle.chart_syntax.specs.Collect.{Answers, Finds};
+ghost use Rattle.chart_syntax.specs.Checks.{Takes, Passes, checks, statement_checks, next, next_statement, group_of, is_version, is_formed, is_variable, state_names, state_check, number_of, some_state_check, parent_number, found_target_check, target_check, is_parent, is_child_of, transition_of, names_check, comparisons_check, is_outside, is_bounded, memory_size, is_constant, is_zero, is_start_under, same_parent, has_line, depth_under, head_check};
+ghost use Rattle.chart_syntax.specs.Promises.{HasFew, IsPartial};
 
-use crate::error::{Kind, LineError, Refusal, Which};
-use crate::keyword::Keyword;
+use crate::error::{Kind, LineError, Which, fault, limit};
 use crate::reader::Reader;
-use crate::statement::{
-    Assign, InputForm, OnForm, OutputForm, Sighted, Signed, StateForm, Statement, Test,
+use crate::state::{take_entry, take_exit, take_state};
+use crate::sum::{Scope, comparison};
+use crate::transition::take_transition;
+use lin_form::{Comparison, Name};
+use line_forms::{
+    InputForm, Keyword, MemoryForm, OutputForm, Sighted, Signed, Statement, TestForm,
 };
-use chart_model::{Action, Guard, Place, Transition};
-use lin_form::{Comparison, Form, Name, Vector};
-use sqlite_items::Items;
 use std::alloc::Global;
 
 const MOST_INPUTS: usize = 6;
 
+const MOST_ASSUMPTIONS: usize = 16;
+
 const MOST_OUTPUTS: usize = 8;
 
-const MOST_STATES: usize = 64;
+const MOST_MEMORIES: usize = 4;
 
-const MOST_TRANSITIONS: usize = 256;
+const LARGEST_MEMORY_BOUND: u64 = 1_000;
 
-/// That a line is refused for a fault.
-fn fault(kind: Kind) -> LineError
-    ensures { result ≡ LineError.Refused (Refusal.Fault kind) }
-{
-    LineError::Refused(Refusal::Fault(kind))
-}
-
-/// That a line passes a limit.
-fn limit(which: Which) -> LineError
-    ensures { result ≡ LineError.Refused (Refusal.Limit which) }
-{
-    LineError::Refused(Refusal::Limit(which))
-}
+const LARGEST_PRODUCT: u64 = 256;
 
 /// The value of a number with its sign.
 pub fn value(number: Signed) -> i64
@@ -49,11 +42,12 @@ pub fn value(number: Signed) -> i64
     }
 }
 
-fn group(head: Option<Keyword>) -> u8
-    ensures { result ≡ group_of head }
+fn group(version: u32, head: Option<Keyword>) -> u8
+    ensures { result ≡ group_of version head }
 {
     match head {
         Some(Keyword::Input) => 1,
+        Some(Keyword::Assume) => { if version == 1 { 0 } else { 2 } }
         Some(Keyword::Output) => 3,
         Some(Keyword::Memory) => 4,
         Some(Keyword::State) => 5,
@@ -68,147 +62,51 @@ fn states_version(form: &Option<Statement>) -> bool
     ensures { result ≡ is_version form.now }
 {
     match form {
-        Some(Statement::Chart(version)) => *version == 1,
+        Some(Statement::Chart(version)) => *version == 1 || *version == 2 || *version == 3,
         _ => false,
     }
 }
 
-fn state(reader: &Reader, name: Name) -> Result<usize, LineError>
-    ensures { Answers (state_check reader.now name) (number_of name (state_names reader.now)) result }
+/// The checks of a line's first word, given the version and the group of the line before.
+fn check_head(reader: &Reader, sighted: &Sighted) -> Result<(), LineError>
+    ensures { Passes (head_check reader.now sighted.now) result }
 {
-    match reader.states.find(name) {
-        Some(number) => Ok(number),
-        None => Err(fault(Kind::Unknown)),
-    }
-}
-
-/// The coefficients of one input alone.
-fn one_input(alloc: Global, inputs: usize, number: usize) -> Vector
-    requires few { inputs ≤ 6 }
-    requires within { number < inputs }
-    ensures { result ≡ unit inputs number }
-{
-    let mut coefficients = [0; 6];
-    coefficients[number] = 1;
-    Vector::from_slice(alloc, &coefficients[..inputs])
-}
-
-fn no_inputs(alloc: Global, inputs: usize) -> Vector
-    requires { inputs ≤ 6 }
-    ensures { result ≡ zeros inputs }
-{
-    let coefficients = [0; 6];
-    Vector::from_slice(alloc, &coefficients[..inputs])
-}
-
-fn comparison(alloc: Global, reader: &Reader, test: &Test, number: usize) -> Comparison
-    requires few { length reader.now.inputs ≤ 6 }
-    requires found { place_of test.now.name (input_names reader.now) ≡ Some number }
-    requires within { number < length reader.now.inputs }
-    ensures { result ≡ comparison_of reader.now test.now }
-{
-    Comparison {
-        form: Form {
-            inputs: one_input(alloc, reader.inputs.len(), number),
-            memory: [0; 4],
-            constant: 0 - value(test.bound),
-        },
-        relation: test.relation,
-    }
-}
-
-fn guard(alloc: Global, reader: &Reader, test: &Option<Test>) -> Result<Option<Guard>, LineError>
-    requires few { length reader.now.inputs ≤ 6 }
-    ensures { Answers (test_check reader.now test.now) (guard_of reader.now test.now) result }
-{
-    let Some(test) = test else {
-        return Ok(None);
-    };
-    match reader.inputs.find(test.name) {
-        Some(number) => Ok(Some(Guard::Test(comparison(alloc, reader, test, number)))),
-        None => {
-            if reader.outputs.has(test.name) {
-                Err(fault(Kind::Misuse))
-            } else {
-                Err(fault(Kind::Unknown))
-            }
+    if reader.version == 0 {
+        if states_version(&sighted.form) {
+            return Ok(());
         }
+        return Err(fault(Kind::Version));
+    }
+    let group = group(reader.version, sighted.head);
+    if group == 0 {
+        return Err(fault(Kind::NoSuchLine));
+    }
+    if group < reader.group {
+        return Err(fault(Kind::Misplaced));
+    }
+    Ok(())
+}
+
+/// Whether what a line says is a form of the version.
+fn is_form_of(version: u32, said: &Statement) -> bool
+    ensures { result ≡ is_formed version (Some said.now) }
+{
+    match said {
+        Statement::On(form) => !form.history || version == 3,
+        _ => true,
     }
 }
 
-fn action(alloc: Global, reader: &Reader, assign: &Assign) -> Result<Action, LineError>
-    requires few { length reader.now.inputs ≤ 6 }
-    ensures { Answers (assign_check reader.now assign.now) (action_of reader.now assign.now) result }
+fn is_variable(reader: &Reader, name: Name) -> bool
+    ensures { result ≡ is_variable reader.now name }
 {
-    match reader.outputs.find(assign.name) {
-        Some(number) => Ok(Action {
-            place: Place::Output(number),
-            value: Form {
-                inputs: no_inputs(alloc, reader.inputs.len()),
-                memory: [0; 4],
-                constant: value(assign.value),
-            },
-        }),
-        None => {
-            if reader.inputs.has(assign.name) {
-                Err(fault(Kind::Misuse))
-            } else {
-                Err(fault(Kind::Unknown))
-            }
-        }
-    }
-}
-
-fn actions(alloc: Global, reader: &Reader, effect: &[Assign]) -> Result<Items<Action>, LineError>
-    requires few { length reader.now.inputs ≤ 6 }
-    ensures { Answers (effect_check reader.now effect.now) (map (action_of reader.now) effect.now) result }
-{
-    let mut actions = Items::new(alloc);
-    'effect: for assign in effect {
-        let action = match action(alloc, reader, assign) {
-            Ok(action) => action,
-            Err(error) => return Err(error),
-        };
-        if actions.push(action).is_err() {
-            return Err(LineError::Memory);
-        }
-    }
-    Ok(actions)
-}
-
-fn target(reader: &Reader, name: &Option<Name>) -> Result<Option<usize>, LineError>
-    ensures { Answers (target_check reader.now name.now) (target_of reader.now name.now) result }
-{
-    let Some(name) = name else {
-        return Ok(None);
-    };
-    match state(reader, *name) {
-        Ok(number) => Ok(Some(number)),
-        Err(error) => Err(error),
-    }
-}
-
-fn transition(alloc: Global, reader: &Reader, form: &OnForm) -> Result<Transition, LineError>
-    requires few { length reader.now.inputs ≤ 6 }
-    ensures { Answers (names_check reader.now (says.On form.now)) (transition_of reader.now form.now) result }
-{
-    let source = state(reader, form.source)?;
-    let guard = guard(alloc, reader, &form.test)?;
-    let effect = actions(alloc, reader, form.effect.as_slice())?;
-    let target = target(reader, &form.target)?;
-    Ok(Transition {
-        source,
-        guard,
-        effect,
-        target,
-        history: false,
-    })
+    reader.inputs.has(name) || reader.outputs.has(name) || reader.memories.has(name)
 }
 
 fn take_input(reader: &mut Reader, form: InputForm) -> Result<(), LineError>
     ensures { Takes statement_checks next_statement reader.old reader.new (says.Input form) result }
 {
-    if reader.inputs.has(form.name) || reader.outputs.has(form.name) {
+    if is_variable(reader, form.name) {
         return Err(fault(Kind::Double));
     }
     if value(form.hi) < value(form.lo) {
@@ -224,10 +122,44 @@ fn take_input(reader: &mut Reader, form: InputForm) -> Result<(), LineError>
     Ok(())
 }
 
+/// Whether no input has a coefficient other than 0.
+fn is_constant(comparison: &Comparison) -> bool
+    ensures { result ≡ is_constant comparison.now }
+{
+    comparison
+        .form
+        .inputs
+        .as_slice()
+        .iter()
+        .all(|coefficient| *coefficient == 0)
+}
+
+fn take_assumption(alloc: Global, reader: &mut Reader, form: &TestForm) -> Result<(), LineError>
+    requires few { HasFew reader.old }
+    requires small { IsSmallStatement (says.Assume form.now) }
+    ensures { Takes statement_checks next_statement reader.old reader.new (says.Assume form.now) result }
+{
+    let assumption = match comparison(alloc, reader, Scope::Assumption, form) {
+        Ok(assumption) => assumption,
+        Err(error) => return Err(error),
+    };
+    if is_constant(&assumption) {
+        return Err(fault(Kind::Range));
+    }
+    if reader.assumed.len() >= MOST_ASSUMPTIONS {
+        return Err(limit(Which::Assumptions));
+    }
+    if reader.assumed.push(assumption).is_err() {
+        return Err(LineError::Memory);
+    }
+    reader.group = 2;
+    Ok(())
+}
+
 fn take_output(reader: &mut Reader, form: OutputForm) -> Result<(), LineError>
     ensures { Takes statement_checks next_statement reader.old reader.new (says.Output form) result }
 {
-    if reader.inputs.has(form.name) || reader.outputs.has(form.name) {
+    if is_variable(reader, form.name) {
         return Err(fault(Kind::Double));
     }
     if reader.outputs.len() >= MOST_OUTPUTS {
@@ -240,96 +172,93 @@ fn take_output(reader: &mut Reader, form: OutputForm) -> Result<(), LineError>
     Ok(())
 }
 
-pub fn has_start(states: &[StateForm]) -> bool
-    ensures { result ≡ list_any (λ form. form.start) states.now }
+/// Whether the range has no number, or the value lies outside it.
+fn is_outside(form: &MemoryForm) -> bool
+    ensures { result ≡ is_outside form.now }
 {
-    states.iter().any(|form| form.start)
+    let (lo, hi, initial) = (value(form.lo), value(form.hi), value(form.value));
+    hi < lo || initial < lo || hi < initial
 }
 
-fn take_state(reader: &mut Reader, form: StateForm) -> Result<(), LineError>
-    ensures { Takes statement_checks next_statement reader.old reader.new (says.State form) result }
+fn is_bounded(form: &MemoryForm) -> bool
+    ensures { result ≡ is_bounded form.now }
 {
-    if reader.states.has(form.name) {
+    value(form.lo).unsigned_abs() <= LARGEST_MEMORY_BOUND
+        && value(form.hi).unsigned_abs() <= LARGEST_MEMORY_BOUND
+}
+
+/// How many numbers the memory's range has.
+fn range_size(form: &MemoryForm) -> u64
+    ensures size { result ≡ memory_size form.now }
+    ensures small { result < 2 ^ 34 }
+{
+    (value(form.hi) - value(form.lo)).unsigned_abs() + 1
+}
+
+fn take_memory(reader: &mut Reader, form: MemoryForm) -> Result<(), LineError>
+    requires few { HasFew reader.old }
+    ensures { Takes statement_checks next_statement reader.old reader.new (says.Memory form) result }
+{
+    if is_variable(reader, form.name) {
         return Err(fault(Kind::Double));
     }
-    if form.start && has_start(reader.states.as_slice()) {
-        return Err(fault(Kind::Start));
+    if is_outside(&form) {
+        return Err(fault(Kind::Range));
     }
-    if reader.states.len() >= MOST_STATES {
-        return Err(limit(Which::States));
+    if reader.memories.len() >= MOST_MEMORIES {
+        return Err(limit(Which::Memories));
     }
-    if reader.states.push(form).is_err() {
+    if !is_bounded(&form) {
+        return Err(limit(Which::Bound));
+    }
+    let product = reader.product * range_size(&form);
+    if product > LARGEST_PRODUCT {
+        return Err(limit(Which::Product));
+    }
+    if reader.memories.push(form).is_err() {
         return Err(LineError::Memory);
     }
-    reader.group = 5;
-    Ok(())
-}
-
-fn take_on(alloc: Global, reader: &mut Reader, form: &OnForm) -> Result<(), LineError>
-    requires few { length reader.old.inputs ≤ 6 }
-    ensures { Takes statement_checks next_statement reader.old reader.new (says.On form.now) result }
-{
-    let transition = match transition(alloc, reader, form) {
-        Ok(transition) => transition,
-        Err(error) => return Err(error),
-    };
-    if reader.transitions.len() >= MOST_TRANSITIONS {
-        return Err(limit(Which::Transitions));
-    }
-    if reader.transitions.push(transition).is_err() {
-        return Err(LineError::Memory);
-    }
-    reader.group = 6;
+    reader.product = product;
+    reader.group = 4;
     Ok(())
 }
 
 fn take_statement(alloc: Global, reader: &mut Reader, said: &Statement) -> Result<(), LineError>
-    requires few { length reader.old.inputs ≤ 6 }
+    requires partial { IsPartial reader.old }
+    requires small { IsSmallStatement said.now }
     ensures { Takes statement_checks next_statement reader.old reader.new said.now result }
 {
     match said {
-        Statement::Chart(_) => {
-            reader.group = 1;
+        Statement::Chart(version) => {
+            reader.version = *version;
             Ok(())
         }
         Statement::Input(form) => take_input(reader, *form),
+        Statement::Assume(form) => take_assumption(alloc, reader, form),
         Statement::Output(form) => take_output(reader, *form),
-        Statement::State(form) => take_state(reader, *form),
-        Statement::On(form) => take_on(alloc, reader, form),
+        Statement::Memory(form) => take_memory(reader, *form),
+        Statement::State(form) => take_state(alloc, reader, *form),
+        Statement::Entry(form) => take_entry(alloc, reader, form),
+        Statement::Exit(form) => take_exit(alloc, reader, form),
+        Statement::On(form) => take_transition(alloc, reader, form),
     }
-}
-
-/// The checks of a line's first word, given the group of the line before.
-fn check_head(before: u8, sighted: &Sighted) -> Result<(), LineError>
-    ensures { Passes (head_check before sighted.now) result }
-{
-    if before == 0 {
-        if states_version(&sighted.form) {
-            return Ok(());
-        }
-        return Err(fault(Kind::Version));
-    }
-    let group = group(sighted.head);
-    if group == 0 {
-        return Err(fault(Kind::NoSuchLine));
-    }
-    if group < before {
-        return Err(fault(Kind::Misplaced));
-    }
-    Ok(())
 }
 
 /// Checks a line and takes what it declares.
 pub fn take(alloc: Global, reader: &mut Reader, sighted: &Sighted) -> Result<(), LineError>
-    requires few { length reader.old.inputs ≤ 6 }
+    requires partial { IsPartial reader.old }
+    requires small { IsSmallSight sighted.now }
     ensures { Takes checks next reader.old reader.new sighted.now result }
 {
-    match check_head(reader.group, sighted) {
+    match check_head(reader, sighted) {
         Ok(()) => {}
         Err(error) => return Err(error),
     }
-    match &sighted.form {
-        Some(said) => take_statement(alloc, reader, said),
-        None => Err(fault(Kind::Form)),
+    let Some(said) = &sighted.form else {
+        return Err(fault(Kind::Form));
+    };
+    if !is_form_of(reader.version, said) {
+        return Err(fault(Kind::Form));
     }
+    take_statement(alloc, reader, said)
 }

@@ -1,18 +1,16 @@
-ghost use Rattle.std.specs.Prelude.{◌≡◌, ◌≤◌, List, [], ◌∷◌, ◌++◌, length, map, All, IfOk, IfErr, MatchOption, OnOk};
-ghost use Rattle.lin_form.specs.Form.{truth_of};
+ghost use Rattle.std.specs.Prelude.{◌≡◌, ◌≤◌, List, [], ◌∷◌, ◌++◌, length, map, All, IfOk, IfErr};
 ghost use Rattle.chart_model.specs.Guard.{IsReadable};
-ghost use Rattle.chart_syntax.specs.Words.{meets, IsInBox, AreNumbers, ReadsVector, ReadsWord, HasNumbers, IsWordLine, AddsVector};
-ghost use Rattle.chart_syntax.specs.Reading.{IsNotYet};
+ghost use Rattle.chart_syntax.specs.Reading.{IsRefusedBy};
+ghost use Rattle.chart_syntax.specs.Words.{meets, vector_of, GivesVector, TakesVector, ReadsWord, RefusesWord};
 
-use crate::error::{ChartError, FormError, Kind, LineError, Refusal};
-use crate::form::{signed_at, size};
-use crate::line::Line;
+use crate::error::{ChartError, Kind, LineError, at_line, fault};
+use crate::scan::token_error;
 use crate::take::value;
-use crate::text::{refused, token_error};
 use chart_model::Chart;
 use lin_form::{Comparison, Vector, holds};
-use line_tokens::{content, line_tokens, next_line};
-use std::alloc::Global;
+use line_forms::{Signed, WordForm, see_numbers};
+use line_tokens::next_line;
+use std::alloc::{AllocError, Global};
 
 /// Whether every assumption holds for the vector.
 fn meets(assumed: &[Comparison], vector: &Vector) -> bool
@@ -27,40 +25,33 @@ fn meets(assumed: &[Comparison], vector: &Vector) -> bool
     true
 }
 
-/// The numbers that make up a line.
-fn numbers(alloc: Global, line: &Line) -> Result<Vec<i64>, FormError>
-    requires { length line.now ≤ 1024 }
-    ensures { IfOk result (λ numbers. HasNumbers line.now numbers.items) }
+/// The values of a line's numbers.
+fn values(alloc: Global, numbers: &[Signed]) -> Result<Vec<i64>, AllocError>
+    ensures { IfOk result (λ values. values.items ≡ vector_of numbers.now) }
 {
-    let mut numbers = Vec::new(alloc);
-    let mut at = 0;
-    'numbers: while at < line.len() {
-        let Some(number) = signed_at(line, at) else {
-            return Err(FormError::Form);
-        };
-        if numbers.push(value(number)).is_err() {
-            return Err(FormError::Memory);
-        }
-        at += size(number);
+    let mut values = Vec::new(alloc);
+    'numbers: for number in numbers {
+        values.push(value(*number))?;
     }
-    Ok(numbers)
+    Ok(values)
 }
 
-fn vector(alloc: Global, chart: &Chart, line: &Line) -> Result<Vector, LineError>
-    requires { length line.now ≤ 1024 }
-    ensures { IfOk result (λ vector. IsWordLine chart.now line.now vector) }
+/// The vector of a line of a word.
+fn vector(alloc: Global, chart: &Chart, form: &WordForm) -> Result<Vector, LineError>
+    ensures { GivesVector chart.now form.now.numbers result }
 {
-    let numbers = match numbers(alloc, line) {
-        Ok(numbers) => numbers,
-        Err(FormError::Form) => return Err(LineError::Refused(Refusal::Fault(Kind::Form))),
-        Err(FormError::Memory) => return Err(LineError::Memory),
+    let Some(numbers) = &form.numbers else {
+        return Err(fault(Kind::Form));
     };
-    if numbers.len() != chart.signature.inputs.as_slice().len() {
-        return Err(LineError::Refused(Refusal::Fault(Kind::Form)));
+    let Ok(values) = values(alloc, numbers.as_slice()) else {
+        return Err(LineError::Memory);
+    };
+    if values.len() != chart.signature.inputs.as_slice().len() {
+        return Err(fault(Kind::Form));
     }
-    let vector = Vector::from_slice(alloc, numbers.as_slice());
+    let vector = Vector::from_slice(alloc, values.as_slice());
     if !chart.signature.inputs.contains(&vector) || !meets(chart.assumed.as_slice(), &vector) {
-        return Err(LineError::Refused(Refusal::Fault(Kind::OutOfBox)));
+        return Err(fault(Kind::OutOfBox));
     }
     Ok(vector)
 }
@@ -72,46 +63,43 @@ fn take_vector(
     line: &[u8],
     vectors: &mut Vec<Vector>,
 ) -> Result<(), LineError>
-    ensures { OnOk result (AddsVector chart.now line.now vectors.old.items vectors.new.items) }
+    ensures { TakesVector chart.now line.now vectors.old.items vectors.new.items result }
 {
-    let tokens = match line_tokens(alloc, line) {
-        Ok(tokens) => tokens,
+    let form = match see_numbers(alloc, line) {
+        Ok(Some(form)) => form,
+        Ok(None) => return Ok(()),
         Err(error) => return Err(token_error(error)),
     };
-    let line = Line::new(content(line), tokens.as_slice());
-    if line.len() == 0 {
-        return Ok(());
-    }
-    let vector = vector(alloc, chart, &line)?;
+    let vector = match vector(alloc, chart, &form) {
+        Ok(vector) => vector,
+        Err(error) => return Err(error),
+    };
     if vectors.push(vector).is_err() {
         return Err(LineError::Memory);
     }
     Ok(())
 }
 
-fn vectors(alloc: Global, text: &[u8], chart: &Chart) -> Result<Vec<Vector>, LineError>
-    ensures { IfOk result (λ vectors. ReadsWord chart.now text.now vectors.items) }
+/// The word over the chart that a text reads as: a vector for each line that is not blank.
+///
+/// A text that is none is refused with the number of the first line that a check meets, from 1, and what the first such
+/// check on it tells: `Form` where the line has not one number per input, `OutOfBox` where a number is outside its
+/// input's range or an assumption of the chart does not hold.
+pub fn read_word(alloc: Global, text: &[u8], chart: &Chart) -> Result<Vec<Vector>, ChartError>
+    ensures read { IfOk result (λ vectors. ReadsWord chart.now text.now vectors.items) }
+    ensures refused { IfErr result (IsRefusedBy (RefusesWord chart.now text.now)) }
 {
     let mut vectors = Vec::new(alloc);
     let mut rest = text;
+    let mut number = 1;
     'lines: while !rest.is_empty() {
         let (line, after) = next_line(rest);
         match take_vector(alloc, chart, line, &mut vectors) {
             Ok(()) => {}
-            Err(error) => return Err(error),
+            Err(error) => return Err(at_line(number, error)),
         }
         rest = after;
+        number += 1;
     }
     Ok(vectors)
-}
-
-/// The word over the chart that a text reads as. A text that is none is refused with `NotYet` on line 1.
-pub fn read_word(alloc: Global, text: &[u8], chart: &Chart) -> Result<Vec<Vector>, ChartError>
-    ensures read { IfOk result (λ vectors. ReadsWord chart.now text.now vectors.items) }
-    ensures refused { IfErr result IsNotYet }
-{
-    match vectors(alloc, text, chart) {
-        Ok(vectors) => Ok(vectors),
-        Err(error) => Err(refused(error)),
-    }
 }

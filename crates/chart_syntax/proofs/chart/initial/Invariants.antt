@@ -1,5 +1,5 @@
 use Rattle.std.proofs.Common.{◌≡◌, map, take}
-use Rattle.chart_syntax.specs.Forms.{value_of}
+use Rattle.line_forms.specs.Forms.{value_of}
 use Rattle.chart_syntax.proofs.chart.initial.Given as goal
 
 abbrev pub invariant-values : goal.invariant-values

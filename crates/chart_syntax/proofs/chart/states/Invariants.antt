@@ -1,6 +1,6 @@
-use Rattle.std.proofs.Common.{◌≡◌, map, take}
-use Rattle.chart_syntax.specs.Reading.{flat_state}
+use Rattle.std.proofs.Common.{◌≡◌, ◌++◌, length, drop}
+use Rattle.chart_syntax.proofs.Whole.{IsJoinedTo}
 use Rattle.chart_syntax.proofs.chart.states.Given as goal
 
 abbrev pub invariant-states : goal.invariant-states
-invariant-states l = l.states ≡ map flat_state (take l.form-index l.forms)
+invariant-states l = IsJoinedTo l.declared (drop l.state-index l.declared) l.fn.entries l.fn.exits l.entries l.exits l.states

@@ -1,5 +1,7 @@
-use Rattle.chart_syntax.proofs.Lines.{sound_line}
+use Rattle.chart_syntax.proofs.Placing.{line_partial}
 use Rattle.chart_syntax.proofs.text.read_line.Goals as goal
 
-pub new-line-requires : goal.new-line-requires
-new-line-requires c = sound_line c.args.line.now c.content.result.now c.in-Ok.tokens.items c.as_slice.result.now c.in-Ok.ensures.ok c.content.ensures c.as_slice.ensures.value
+pub returns-in-Ok-Some-clause-partial : goal.returns-in-Ok-Some-clause-partial
+returns-in-Ok-Some-clause-partial c =
+    line_partial c.args.reader.now c.take.new.reader c.in-Ok-Some.sighted c.args.line.now c.take.result c.requires (rw c.in-Ok-Some.field-0-is at c.in-Ok-Some.ensures.view)
+    (c.in-Ok-Some.ensures.small c.in-Ok-Some.sighted c.in-Ok-Some.field-0-is) c.take.ensures
