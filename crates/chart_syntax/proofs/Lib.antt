@@ -8,3 +8,5 @@ pub mod Lines
 pub mod Vectors
 pub mod Joined
 pub mod Whole
+pub mod Deciding
+pub mod DecidingWords

@@ -94,3 +94,10 @@ abbrev pub GivesVector : Chart → Option (List Signed) → Result (List ℤ) Li
 GivesVector chart numbers (Ok vector) = ChecksNumbers chart numbers None × (vectors_in numbers ≡ vector ∷ [])
 GivesVector chart numbers (Err (line_error.Refused refusal)) = ChecksNumbers chart numbers (Some refusal)
 GivesVector chart numbers (Err line_error.Memory) = Unit {0}
+
+-- for a text there is exactly one reading as a word over the chart, or exactly one refusal
+pub record IsDecidedWord (chart : Chart) (text : List ℕ) : Type 0 where
+  pub one_reading : (a b : List (List ℤ)) → ReadsWord chart text a → ReadsWord chart text b → a ≡ b
+  pub one_refusal : (n m : ℕ) (met other : Refusal) → RefusesWord chart text n met → RefusesWord chart text m other → (n ≡ m) × (met ≡ other)
+  pub apart : (vectors : List (List ℤ)) (n : ℕ) (met : Refusal) → ReadsWord chart text vectors → RefusesWord chart text n met → ⊥
+  pub some : ((vectors : List (List ℤ)) → ReadsWord chart text vectors → ⊥) → ((n : ℕ) (met : Refusal) → RefusesWord chart text n met → ⊥) → ⊥

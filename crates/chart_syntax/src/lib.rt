@@ -5,6 +5,7 @@ mod action;
 mod chart;
 mod error;
 mod guard;
+mod laws;
 mod names;
 mod reader;
 mod scan;
@@ -20,6 +21,7 @@ mod word;
 
 pub use chart_model::{Action, Chart, Condition, Guard, Memory, Place, State, Transition};
 pub use error::{ChartError, Kind, Which};
+pub use laws::{chart_or_refusal, word_or_refusal};
 pub use line_tokens::{Token, Word};
 pub use scan::tokens;
 pub use text::read_chart;

@@ -19,7 +19,7 @@ mod view;
 
 pub use condition::{Condition, GuardForm};
 pub use keyword::Keyword;
-pub use laws::{one_numbers, one_sight, some_numbers, some_sight};
+pub use laws::{all_small, one_numbers, one_sight, some_numbers, some_sight};
 pub use lexeme::Lexeme;
 pub use statement::{
     ActionForm, ActionsForm, InputForm, MemoryForm, OnForm, OutputForm, Sighted, Signed,
