@@ -19,8 +19,9 @@ use Rattle.chart_syntax.specs.declared.reader.Reader.{Reader}
 use Rattle.chart_syntax.specs.declared.error.Refusal.{Refusal}
 use Rattle.chart_syntax.specs.Checks.{end_check}
 use Rattle.chart_syntax.specs.Promises.{HasRange, IsPartial}
-use Rattle.chart_syntax.specs.Reading.{bounds_of_input, bounds_of_form, memory_of, states_of, IsContent, IsMet, ReadsFrom, RefusesFrom, AreSame, view_check, next_view}
+use Rattle.chart_syntax.specs.Reading.{bounds_of_input, bounds_of_form, memory_of, states_of, IsContent, IsMet, ReadsFrom, RefusesFrom, view_check, next_view}
 use Rattle.chart_syntax.proofs.Placing.{partial_sight}
+use Rattle.chart_syntax.proofs.Same.{AreSame, same_chart}
 use Rattle.chart_syntax.proofs.Whole.{inputs_fit, outputs_fit, is_chart}
 
 -- a line is one thing
@@ -30,8 +31,8 @@ IsOne {T} Is = (line : List ℕ) (a b : Result (Option T) TokenError) → Is lin
 some_same : {X : Type 0} (a b : X) → Some a ≡ Some b → a ≡ b
 some_same a b e = cc
 
-same_content : (s : Reader) (a b : Chart) → IsContent s a → IsContent s b → AreSame a b
-same_content s a b p q = record {
+same_content : (s : Reader) (a b : Chart) → IsContent s a → IsContent s b → a ≡ b
+same_content s a b p q = same_chart a b (record {
   inputs = p.inputs ∙ sym q.inputs;
   outputs = p.outputs ∙ sym q.outputs;
   initial = p.initial ∙ sym q.initial;
@@ -39,9 +40,9 @@ same_content s a b p q = record {
   memories = p.memories ∙ sym q.memories;
   states = p.states ∙ sym q.states;
   transitions = p.transitions ∙ sym q.transitions;
-}
+})
 
-pub one_reading : IsOne (IsView IsSighted) → (s : Reader) (lines : List (List ℕ)) (a b : Chart) → ReadsFrom s lines a → ReadsFrom s lines b → AreSame a b
+pub one_reading : IsOne (IsView IsSighted) → (s : Reader) (lines : List (List ℕ)) (a b : Chart) → ReadsFrom s lines a → ReadsFrom s lines b → a ≡ b
 one_reading one s [] a b p q = same_content s a b p.1 q.1
 one_reading one s (line ∷ lines) a b p q =
     let e = one line q.0 p.0 q.1 p.1 in

@@ -8,5 +8,6 @@ pub mod Lines
 pub mod Vectors
 pub mod Joined
 pub mod Whole
+pub mod Same
 pub mod Deciding
 pub mod DecidingWords

@@ -123,19 +123,9 @@ abbrev pub ReadsLines : List ℕ → Result (Reader × ℕ) ChartError → Type 
 ReadsLines text (Ok r) = IsSoFar text [] r.0 r.1
 ReadsLines text (Err error) = IsRefusedBy (Refuses text) error
 
--- two charts have the same lists
-pub record AreSame (a b : Chart) : Type 0 where
-  pub inputs : map bounds_of_input a.signature.inputs ≡ map bounds_of_input b.signature.inputs
-  pub outputs : a.signature.outputs ≡ b.signature.outputs
-  pub initial : a.initial ≡ b.initial
-  pub assumed : a.assumed ≡ b.assumed
-  pub memories : a.memories ≡ b.memories
-  pub states : a.states ≡ b.states
-  pub transitions : a.transitions ≡ b.transitions
-
 -- for a text there is exactly one reading or exactly one refusal
 pub record IsDecided (text : List ℕ) : Type 0 where
-  pub one_reading : (a b : Chart) → Reads text a → Reads text b → AreSame a b
+  pub one_reading : (a b : Chart) → Reads text a → Reads text b → a ≡ b
   pub one_refusal : (n m : ℕ) (met other : Refusal) → Refuses text n met → Refuses text m other → (n ≡ m) × (met ≡ other)
   pub apart : (chart : Chart) (n : ℕ) (met : Refusal) → Reads text chart → Refuses text n met → ⊥
   pub some : ((chart : Chart) → Reads text chart → ⊥) → ((n : ℕ) (met : Refusal) → Refuses text n met → ⊥) → ⊥
