@@ -1,16 +1,21 @@
 -- The vectors of lines, read one after another.
 use Rattle.std.proofs.Common.{◌≡◌, ℕ, ◌+◌, ◌≤◌, ◌<◌, List, [], ◌∷◌, ◌++◌, length, ℤ, refl, sym, ◌∙◌, ap, subst, arith, append_assoc}
-use Rattle.std.specs.Prelude.{Some, None, Ok, Err}
+use Rattle.std.specs.Prelude.{Option, Some, None, Result, Ok, Err}
+use Rattle.std.specs.List.{All}
+use Rattle.std.proofs.lemmas.List.Elements.{All-nil, All-cons, All-append}
 use Rattle.std.proofs.lemmas.List.{append-nil}
 use Rattle.chart_model.specs.declared.chart.Chart.{Chart}
+use Rattle.line_tokens.specs.declared.error.TokenError.{TokenError}
 use Rattle.line_tokens.specs.Lines.{lines_of}
+use Rattle.line_forms.specs.declared.statement.Signed.{Signed}
+use Rattle.line_forms.specs.declared.statement.WordForm.{WordForm}
 use Rattle.chart_syntax.specs.declared.error.Refusal.{Refusal}
 use Rattle.chart_syntax.specs.declared.error.Refusal.TheVariants.{Fault, Limit}
 use Rattle.chart_syntax.specs.declared.error.LineError.{LineError}
 use Rattle.chart_syntax.specs.declared.error.LineError.TheVariants.{Refused, Memory}
 use Rattle.chart_syntax.specs.Checks.{refused_at}
 use Rattle.chart_syntax.specs.Reading.{IsRefusedBy}
-use Rattle.chart_syntax.specs.Words.{ReadsVectors, ReadsWord, RefusesVectors, RefusesWord, TakesVector, vectors_of}
+use Rattle.chart_syntax.specs.Words.{ReadsVectors, ReadsWord, RefusesVectors, RefusesWord, TakesVector, IsInBox, ChecksNumbers, ChecksView, vector_of, vectors_in, vectors_of}
 
 -- the lines before the rest give these vectors
 pub record IsWordTo (chart : Chart) (text rest : List ℕ) (vectors : List (List ℤ)) (n : ℕ) : Type 0 where
@@ -43,3 +48,17 @@ word_refused chart text line rest after vectors more n Memory read is takes = tt
 pub word_end : (chart : Chart) (text rest : List ℕ) (vectors : List (List ℤ)) (n : ℕ) → IsWordTo chart text rest vectors n → length rest ≡ 0 → ReadsWord chart text vectors
 word_end chart text [] vectors n read e = subst (ReadsWord chart text) (append-nil vectors) (read.back [] refl)
 word_end chart text (b ∷ bs) vectors n read e = absurd (omega arith)
+
+numbers_in_box : (chart : Chart) (numbers : Option (List Signed)) → ChecksNumbers chart numbers None → All (IsInBox chart) (vectors_in numbers)
+numbers_in_box chart None h = All-nil (IsInBox chart)
+numbers_in_box chart (Some numbers) h = All-cons (IsInBox chart) (vector_of numbers) [] h (All-nil (IsInBox chart))
+
+view_in_box : (chart : Chart) (view : Result (Option WordForm) TokenError) → ChecksView chart view None → All (IsInBox chart) (vectors_of view)
+view_in_box chart (Err error) h = All-nil (IsInBox chart)
+view_in_box chart (Ok None) h = All-nil (IsInBox chart)
+view_in_box chart (Ok (Some form)) h = numbers_in_box chart form.numbers h
+
+-- the vectors of a word lie in the box
+pub all_in_box : (chart : Chart) (lines : List (List ℕ)) (vectors : List (List ℤ)) → ReadsVectors chart lines vectors → All (IsInBox chart) vectors
+all_in_box chart [] vectors h = subst (All (IsInBox chart)) (sym h) (All-nil (IsInBox chart))
+all_in_box chart (line ∷ lines) vectors h = subst (All (IsInBox chart)) (sym h.5) (All-append (IsInBox chart) (vectors_of h.0) h.3 (view_in_box chart h.0 h.2) (all_in_box chart lines h.3 h.4))

@@ -1,7 +1,7 @@
 ghost use Rattle.std.specs.Prelude.{◌≡◌, ◌≤◌, List, [], ◌∷◌, ◌++◌, length, map, All, IfOk, IfErr};
 ghost use Rattle.chart_model.specs.Guard.{IsReadable};
 ghost use Rattle.chart_syntax.specs.Reading.{IsRefusedBy};
-ghost use Rattle.chart_syntax.specs.Words.{meets, vector_of, GivesVector, TakesVector, ReadsWord, RefusesWord};
+ghost use Rattle.chart_syntax.specs.Words.{IsInBox, meets, vector_of, GivesVector, TakesVector, ReadsWord, RefusesWord};
 
 use crate::error::{ChartError, Kind, LineError, at_line, fault};
 use crate::scan::token_error;
@@ -87,6 +87,7 @@ fn take_vector(
 /// input's range or an assumption of the chart does not hold.
 pub fn read_word(alloc: Global, text: &[u8], chart: &Chart) -> Result<Vec<Vector>, ChartError>
     ensures read { IfOk result (λ vectors. ReadsWord chart.now text.now vectors.items) }
+    ensures inside { IfOk result (λ vectors. All (IsInBox chart.now) vectors.items) }
     ensures refused { IfErr result (IsRefusedBy (RefusesWord chart.now text.now)) }
 {
     let mut vectors = Vec::new(alloc);

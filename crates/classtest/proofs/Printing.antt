@@ -2,7 +2,7 @@
 use Rattle.std.proofs.Common.{◌≡◌, ℕ, ℤ, ◌+◌, ◌-◌, ◌<◌, ◌≤◌, List, [], ◌∷◌, ◌++◌, length, take, drop, get_or, Option, refl, sym, ◌∙◌, ap, subst, append_assoc, arith}
 use Rattle.std.specs.List.{flat_map, All}
 use Rattle.std.proofs.lemmas.List.{drop_more, append-nil}
-use Rattle.std.proofs.lemmas.List.Elements.{All-nil, All-cons}
+use Rattle.std.proofs.lemmas.List.Elements.{All-weaker}
 use Rattle.std.proofs.Math.ListN.{drop_of_length-le}
 use Rattle.test_world.specs.Sink.{Grows, GrowsByPrefix}
 use Rattle.test_world.proofs.Growing.{grows_by_both, grows_by_nothing, prefix_after, prefix_before}
@@ -11,9 +11,7 @@ use Rattle.chart_model.specs.declared.chart.Chart.{Chart}
 use Rattle.chart_meaning.specs.Configuration.{Configuration}
 use Rattle.chart_meaning.specs.IsConfiguration.{IsConfiguration}
 use Rattle.chart_meaning.specs.Step.{next_of, reply_of, start_of}
-use Rattle.chart_syntax.specs.Words.{ReadsWord, ReadsVectors, ReadsVector, GivesVector, IsInBox}
-use Rattle.line_tokens.specs.Lines.{lines_of}
-use Rattle.chart_syntax.specs.declared.lexeme.Lexeme.{Lexeme}
+use Rattle.chart_syntax.specs.Words.{IsInBox}
 use Rattle.classtest.specs.Numbers.{line_of}
 use Rattle.classtest.specs.Play.{replies_from, answer_of, play_text}
 
@@ -61,16 +59,6 @@ printed_all chart word i c old now p all =
     let P : List ℕ → Type 0 = λ t. Grows old now t in
     subst P (sym whole) p.taken
 
--- each vector of a word that was read lies in the chart's ranges
-vector_in_ranges : (chart : Chart) (line : List ℕ) (vectors later : List (List ℤ)) → ReadsVector chart line vectors later → All (IsInInputRanges chart.signature.inputs) later → All (IsInInputRanges chart.signature.inputs) vectors
-vector_in_ranges chart line vectors later r all = given r.lexemes r.gives where
-  given : (ts : List Lexeme) → GivesVector chart ts vectors later → All (IsInInputRanges chart.signature.inputs) vectors
-  given [] g = let P : List (List ℤ) → Type 0 = λ vs. All (IsInInputRanges chart.signature.inputs) vs in subst P (sym g) all
-  given (x ∷ xs) g = let P : List (List ℤ) → Type 0 = λ vs. All (IsInInputRanges chart.signature.inputs) vs in subst P (sym g.2) (All-cons (IsInInputRanges chart.signature.inputs) g.0 later g.1.1.ranges all)
-
-vectors_in_ranges : (chart : Chart) (lines : List (List ℕ)) (vectors : List (List ℤ)) → ReadsVectors chart lines vectors → All (IsInInputRanges chart.signature.inputs) vectors
-vectors_in_ranges chart [] vectors r = let P : List (List ℤ) → Type 0 = λ vs. All (IsInInputRanges chart.signature.inputs) vs in subst P (sym r) (All-nil (IsInInputRanges chart.signature.inputs))
-vectors_in_ranges chart (line ∷ lines) vectors r = vector_in_ranges chart line vectors r.0 r.1 (vectors_in_ranges chart lines r.0 r.2)
-
-pub word_in_ranges : (chart : Chart) (text : List ℕ) (vectors : List (List ℤ)) → ReadsWord chart text vectors → All (IsInInputRanges chart.signature.inputs) vectors
-word_in_ranges chart text vectors r = vectors_in_ranges chart (lines_of text) vectors r
+-- each vector of the chart's box lies in its ranges
+pub box_in_ranges : (chart : Chart) (vectors : List (List ℤ)) → All (IsInBox chart) vectors → All (IsInInputRanges chart.signature.inputs) vectors
+box_in_ranges chart vectors h = All-weaker (IsInBox chart) (IsInInputRanges chart.signature.inputs) (λ vector box. box.ranges) vectors h

@@ -3,4 +3,6 @@ pub mod Report
 pub mod Numbers
 pub mod Put
 pub mod Play
+pub mod Answer
 pub mod Run
+pub mod Input

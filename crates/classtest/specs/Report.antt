@@ -32,7 +32,6 @@ kind_word kind.Start = codes "start"
 kind_word kind.Twice = codes "twice"
 kind_word kind.OutOfBox = codes "box"
 kind_word kind.Missing = codes "missing"
-kind_word kind.NotYet = codes "not-yet"
 
 abbrev pub limit_word : Which → List ℕ
 limit_word which.Literal = codes "literal"

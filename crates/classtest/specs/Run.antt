@@ -1,24 +1,17 @@
--- What a call of the program answers, and how far it may depart from that.
-use Rattle.std.specs.Prelude.{◌≡◌, ℕ, ℤ, Bool, ◌||◌, ◌==◌, true, List, Option, Some, None, ◌⊎◌}
+-- A call of the program: its answer is carried out, or the call departs from it for want of memory, a failed read or a failed write.
+use Rattle.std.specs.Prelude.{◌≡◌, ℕ, List, [], Option, Some, None, IsSome, ◌⊎◌}
 use Rattle.test_world.specs.Count.{Rose}
 use Rattle.test_world.specs.Shelf.{Showing}
-use Rattle.test_world.specs.Load.{Holds, HoldsMoreThan}
 use Rattle.test_world.specs.Sink.{Grows, GrowsByPrefix}
-use Rattle.chart_model.specs.declared.chart.Chart.{Chart}
-use Rattle.chart_syntax.specs.declared.error.Kind.{Kind}
-use Rattle.chart_syntax.specs.declared.error.Kind.TheVariants as kind
 use Rattle.chart_syntax.specs.declared.error.ChartError.{ChartError}
 use Rattle.chart_syntax.specs.declared.error.ChartError.TheVariants as chart_error
-use Rattle.chart_syntax.specs.Reading.{ReadsFlat}
-use Rattle.chart_syntax.specs.Words.{ReadsWord}
-use Rattle.classtest.specs.declared.command.Command.{Command}
-use Rattle.classtest.specs.declared.command.Command.TheVariants.{Play}
 use Rattle.classtest.specs.declared.refusal.Refusal.{Refusal}
 use Rattle.classtest.specs.declared.refusal.Refusal.TheVariants.{NoCommand, Fault, Limit, TooLong, ReadFault, WriteFault, NoMemory}
-use Rattle.classtest.specs.Command.{command_of, word_at}
-use Rattle.classtest.specs.Play.{play_text}
+use Rattle.classtest.specs.Report.{status_of, err_line}
+use Rattle.classtest.specs.Put.{IsPut}
+use Rattle.classtest.specs.Answer.{Answer, refuses, prints, Answers, IsCommand, Names, HoldsNames}
 
--- a call: its words, what the shelf told, and what the sink took and the counts of faults, before and after
+-- a call up to its last line: its words, what the shelf told, and what `out` took and the counts of faults and puts, before and after
 pub record Run : Type 0 where
   pub words : List (List ℕ)
   pub shown : Option Showing
@@ -28,82 +21,76 @@ pub record Run : Type 0 where
   pub shelf_faults_after : ℕ
   pub out_faults : ℕ
   pub out_faults_after : ℕ
+  pub out_puts : ℕ
+  pub out_puts_after : ℕ
 
--- a chart or a word has at most so many bytes
-abbrev pub most_bytes : ℕ
-most_bytes = 262144
+-- a whole call: its status, and what `err` took
+pub record Call : Type 0 where
+  pub run : Run
+  pub status : ℕ
+  pub err : Option (List ℕ)
+  pub err_after : Option (List ℕ)
+  pub err_faults : ℕ
+  pub err_faults_after : ℕ
 
--- the words are `play` and two names
-abbrev pub IsPlay : List (List ℕ) → Type 0
-IsPlay words = command_of words ≡ Some Play
+-- `out` is unchanged, and nothing was put to it
+abbrev pub IsUntouched : Run → Type 0
+IsUntouched run = (run.out_after ≡ run.out) × (run.out_puts_after ≡ run.out_puts)
 
--- the text that the first name of `play` names reads as this chart
-pub record ReadsChart (words : List (List ℕ)) (shown : Option Showing) (chart : Chart) : Type 0 where
-  pub text : List ℕ
-  pub holds : Holds shown (word_at words 1) text
-  pub reads : ReadsFlat text chart
+-- what must be so where a call departs from its answer, and what `out` is then
+abbrev pub HasDeparted : Run → Refusal → Type 0
+HasDeparted run NoMemory = IsCommand run.words × IsUntouched run
+HasDeparted run (ReadFault name) = Names run.words name × Rose run.shelf_faults run.shelf_faults_after × IsUntouched run
+HasDeparted run WriteFault = (status : ℕ) × (text : List ℕ) × Answers run.words run.shown (prints status text) × GrowsByPrefix run.out run.out_after text × Rose run.out_faults run.out_faults_after
+HasDeparted run other = ⊥
 
--- the text that the second name of `play` names reads as this word over the chart
-pub record ReadsWordOver (words : List (List ℕ)) (shown : Option Showing) (chart : Chart) (word : List (List ℤ)) : Type 0 where
-  pub text : List ℕ
-  pub holds : Holds shown (word_at words 2) text
-  pub reads : ReadsWord chart text word
-
--- the texts that the words of `play` name read as this chart and this word over it
-pub record Reads (words : List (List ℕ)) (shown : Option Showing) (chart : Chart) (word : List (List ℤ)) : Type 0 where
-  pub chart_reads : ReadsChart words shown chart
-  pub word_reads : ReadsWordOver words shown chart word
-
--- what `play` prints for the texts that the shelf holds
-pub record Prints (words : List (List ℕ)) (shown : Option Showing) (text : List ℕ) : Type 0 where
-  pub command : command_of words ≡ Some Play
-  pub chart : Chart
-  pub word : List (List ℤ)
-  pub reads : Reads words shown chart word
-  pub replies : text ≡ play_text chart word
-
--- the word with this number names a text of the command
-abbrev pub is_name_of : Command → ℕ → Bool
-is_name_of Play number = number == 1 || number == 2
-
--- the words are a command
-abbrev pub IsCommand : List (List ℕ) → Type 0
-IsCommand words = (command : Command) × (command_of words ≡ Some command)
-
--- the words are a command, and the one with this number names a text of it
-abbrev pub Names : List (List ℕ) → ℕ → Type 0
-Names words number = (command : Command) × (command_of words ≡ Some command) × (is_name_of command number ≡ true)
-
--- a text that is read as no flat chart, or no word, is refused so
-abbrev pub IsNotReadYet : ℕ → Kind → Type 0
-IsNotReadYet line k = (line ≡ 1) × (k ≡ kind.NotYet)
-
--- the refusal of a text that has no reading
-abbrev pub refusal_of : ℕ → ChartError → Refusal
-refusal_of name (chart_error.Fault line k) = Fault name line k
-refusal_of name (chart_error.Limit line w) = Limit name line w
-refusal_of name chart_error.Memory = NoMemory
-
--- why a text that a command names is not there, for the counts of the shelf's faults before and after
-abbrev pub HasTextCause : List (List ℕ) → Option Showing → ℕ → ℕ → Refusal → Type 0
-HasTextCause words shown before after NoCommand = ⊥
-HasTextCause words shown before after (Fault name line k) = Names words name × IsNotReadYet line k
-HasTextCause words shown before after (Limit name line w) = ⊥
-HasTextCause words shown before after (TooLong name) = Names words name × HoldsMoreThan shown (word_at words name) most_bytes
-HasTextCause words shown before after (ReadFault name) = Names words name × Rose before after
-HasTextCause words shown before after WriteFault = ⊥
-HasTextCause words shown before after NoMemory = IsCommand words
-
--- what must be so where a call refuses, and what `out` is then
+-- the refusal is the answer, and `out` is unchanged; or the call departs so from its answer
 abbrev pub HasCause : Run → Refusal → Type 0
-HasCause run NoCommand = (command_of run.words ≡ None) × (run.out_after ≡ run.out) × (run.shelf_faults_after ≡ run.shelf_faults)
-HasCause run (Fault name line k) = HasTextCause run.words run.shown run.shelf_faults run.shelf_faults_after (Fault name line k) × (run.out_after ≡ run.out)
-HasCause run (Limit name line w) = ⊥
-HasCause run (TooLong name) = HasTextCause run.words run.shown run.shelf_faults run.shelf_faults_after (TooLong name) × (run.out_after ≡ run.out)
-HasCause run (ReadFault name) = HasTextCause run.words run.shown run.shelf_faults run.shelf_faults_after (ReadFault name) × (run.out_after ≡ run.out)
-HasCause run WriteFault = (text : List ℕ) × Prints run.words run.shown text × GrowsByPrefix run.out run.out_after text × Rose run.out_faults run.out_faults_after
-HasCause run NoMemory = IsCommand run.words × (run.out_after ≡ run.out)
+HasCause run NoCommand = Answers run.words run.shown (refuses NoCommand) × IsUntouched run
+HasCause run (Fault name line kind) = Answers run.words run.shown (refuses (Fault name line kind)) × IsUntouched run
+HasCause run (Limit name line which) = Answers run.words run.shown (refuses (Limit name line which)) × IsUntouched run
+HasCause run (TooLong name) = Answers run.words run.shown (refuses (TooLong name)) × IsUntouched run
+HasCause run (ReadFault name) = HasDeparted run (ReadFault name)
+HasCause run WriteFault = HasDeparted run WriteFault
+HasCause run NoMemory = HasDeparted run NoMemory
 
--- the whole text was put to `out`
+-- a whole text is the answer with status 0, and it was put to `out`
 abbrev pub IsDone : Run → Type 0
-IsDone run = (text : List ℕ) × Prints run.words run.shown text × Grows run.out run.out_after text
+IsDone run = (text : List ℕ) × Answers run.words run.shown (prints 0 text) × Grows run.out run.out_after text
+
+-- the line of a refusal was put to `err`, or a prefix of it where the count of `err` rose
+abbrev pub IsReported : Call → Refusal → Type 0
+IsReported call refusal = IsPut call.err call.err_after call.err_faults call.err_faults_after (err_line call.run.words refusal)
+
+-- the answer is carried out: a refusal by its status and its line, a whole text by its status and `out`
+abbrev pub IsCarriedOut : Call → Answer → Type 0
+IsCarriedOut call (refuses refusal) = (call.status ≡ status_of refusal) × IsUntouched call.run × IsReported call refusal
+IsCarriedOut call (prints status text) = (call.status ≡ status) × Grows call.run.out call.run.out_after text × (call.err_after ≡ call.err)
+
+-- the call departs from its answer, by the status and the line of why
+pub record Departs (call : Call) : Type 0 where
+  pub departure : Refusal
+  pub cause : HasDeparted call.run departure
+  pub status : call.status ≡ status_of departure
+  pub line : IsReported call departure
+
+-- what holds of every call, where `sound` says that the shelf is sound before it
+pub record IsServed (sound : Type 0) (call : Call) : Type 0 where
+  -- an answer is carried out, or the call departs
+  pub caused : ((answer : Answer) × Answers call.run.words call.run.shown answer × IsCarriedOut call answer) ⊎ Departs call
+  -- whatever is the answer to the texts that the shelf tells is carried out, or the call departs
+  pub exact : IsSome call.run.shown → (answer : Answer) → Answers call.run.words call.run.shown answer → IsCarriedOut call answer ⊎ Departs call
+  -- where no count rose, it is carried out, or there was no memory
+  pub complete : IsSome call.run.shown → (answer : Answer) → Answers call.run.words call.run.shown answer
+      → (Rose call.run.shelf_faults call.run.shelf_faults_after → ⊥) → (Rose call.run.out_faults call.run.out_faults_after → ⊥) → IsCarriedOut call answer ⊎ (call.status ≡ 6)
+  -- over a sound shelf that holds each text named, status 5 needs that the count of `out` rose
+  pub sound_shelf : sound → HoldsNames call.run.words call.run.shown → call.status ≡ 5 → Rose call.run.out_faults call.run.out_faults_after
+  -- and nothing is asked of the count of the shelf
+  pub sound_complete : sound → HoldsNames call.run.words call.run.shown → (answer : Answer) → Answers call.run.words call.run.shown answer
+      → (Rose call.run.out_faults call.run.out_faults_after → ⊥) → IsCarriedOut call answer ⊎ (call.status ≡ 6)
+
+-- the refusal of a text, as a reader tells it
+abbrev pub refusal_of : ℕ → ChartError → Refusal
+refusal_of name (chart_error.Fault line kind) = Fault name line kind
+refusal_of name (chart_error.Limit line which) = Limit name line which
+refusal_of name chart_error.Memory = NoMemory

@@ -1,8 +1,11 @@
-ghost use Rattle.std.specs.Prelude.{◌≡◌, ◌≤◌, IfErr, IfOk, map, string_bytes, true, Some};
-ghost use Rattle.test_world.specs.Shelf.{Keeps};
-ghost use Rattle.test_world.specs.Load.{Holds};
+ghost use Rattle.std.specs.Prelude.{◌≡◌, ◌≤◌, IfErr, IfOk, OnErr, map, string_bytes};
+ghost use Rattle.test_world.specs.Shelf.{HasName, Keeps};
+ghost use Rattle.chart_syntax.specs.Words.{IsInBox};
 ghost use Rattle.classtest.specs.Command.{word_at};
-ghost use Rattle.classtest.specs.Run.{HasTextCause, IsCommand, IsPlay, Names, Reads, ReadsChart, ReadsWordOver, refusal_of};
+ghost use Rattle.classtest.specs.Answer.{AnswersText, AnswersChart, AnswersWord, HoldsNames};
+ghost use Rattle.classtest.specs.Run.{refusal_of};
+ghost use Rattle.classtest.specs.Input.{HasTextCause, HasInputCause, IsNoReadFault, IsPlay, ReadsChart, ReadsWordOver, ReadsInput, load_refusal};
+ghost use Rattle.std.specs.List.{All};
 
 use crate::command::word_at;
 use crate::refusal::Refusal;
@@ -10,7 +13,7 @@ use chart_meaning::ChartPlan;
 use chart_syntax::{Chart, ChartError, read_chart, read_word};
 use lin_form::Vector;
 use std::alloc::Global;
-use test_world::{LoadError, Shelf, Text, load};
+use test_world::{LoadError, Shelf, load};
 
 /// How many bytes a chart or a word may have.
 const MOST_BYTES: usize = 262_144;
@@ -32,37 +35,27 @@ fn refusal_of(name: usize, error: ChartError) -> Refusal
     }
 }
 
-/// The text that the word with this number names.
-fn text_under<F: Shelf>(
-    alloc: Global,
-    words: &[String],
-    name: usize,
-    shelf: &mut F,
-) -> Result<Text, Refusal>
-    requires { Names (map string_bytes words.now) name }
-    ensures found { IfOk result (λ text. Holds (F.shown shelf.old) (word_at (map string_bytes words.now) name) text) }
-    ensures cause { IfErr result (λ refusal. HasTextCause (map string_bytes words.now) (F.shown shelf.old) (F.faults shelf.old) (F.faults shelf.new) refusal) }
-    ensures keeps { Keeps (F.shown shelf.old) (F.shown shelf.new) }
-    ensures later { F.faults shelf.old ≤ F.faults shelf.new }
+fn load_refusal(name: usize, error: LoadError) -> Refusal
+    ensures { result ≡ load_refusal name error }
 {
-    match load(alloc, shelf, word_at(words, name), MOST_BYTES) {
-        Ok(text) => Ok(text),
-        Err(LoadError::Fault) => Err(Refusal::ReadFault { name }),
-        Err(LoadError::TooLong) => Err(Refusal::TooLong { name }),
-        Err(LoadError::Memory) => Err(Refusal::NoMemory),
+    match error {
+        LoadError::Fault => Refusal::ReadFault { name },
+        LoadError::TooLong => Refusal::TooLong { name },
+        LoadError::Memory => Refusal::NoMemory,
     }
 }
 
 fn chart_under<F: Shelf>(alloc: Global, words: &[String], shelf: &mut F) -> Result<Chart, Refusal>
-    requires { IsPlay (map string_bytes words.now) }
     ensures read { IfOk result (λ chart. ReadsChart (map string_bytes words.now) (F.shown shelf.old) chart) }
-    ensures cause { IfErr result (λ refusal. HasTextCause (map string_bytes words.now) (F.shown shelf.old) (F.faults shelf.old) (F.faults shelf.new) refusal) }
+    ensures cause { IfErr result (HasTextCause (AnswersText (map string_bytes words.now) (F.shown shelf.old) 1 (AnswersChart (map string_bytes words.now) (F.shown shelf.old))) 1 (F.faults shelf.old) (F.faults shelf.new)) }
     ensures keeps { Keeps (F.shown shelf.old) (F.shown shelf.new) }
     ensures later { F.faults shelf.old ≤ F.faults shelf.new }
+    ensures sound { F.sound shelf.old → HasName (F.shown shelf.old) (word_at (map string_bytes words.now) 1) → F.sound shelf.new }
+    ensures no_fault { F.sound shelf.old → HasName (F.shown shelf.old) (word_at (map string_bytes words.now) 1) → IfErr result IsNoReadFault }
 {
-    let text = match text_under(alloc, words, 1, shelf) {
+    let text = match load(alloc, shelf, word_at(words, 1), MOST_BYTES) {
         Ok(text) => text,
-        Err(refusal) => return Err(refusal),
+        Err(error) => return Err(load_refusal(1, error)),
     };
     match read_chart(alloc, text.bytes()) {
         Ok(chart) => Ok(chart),
@@ -76,15 +69,16 @@ fn word_under<F: Shelf>(
     chart: &Chart,
     shelf: &mut F,
 ) -> Result<Vec<Vector>, Refusal>
-    requires { IsPlay (map string_bytes words.now) }
     ensures read { IfOk result (λ word. ReadsWordOver (map string_bytes words.now) (F.shown shelf.old) chart.now word.items) }
-    ensures cause { IfErr result (λ refusal. HasTextCause (map string_bytes words.now) (F.shown shelf.old) (F.faults shelf.old) (F.faults shelf.new) refusal) }
+    ensures inside { IfOk result (λ word. All (IsInBox chart.now) word.items) }
+    ensures cause { IfErr result (HasTextCause (AnswersText (map string_bytes words.now) (F.shown shelf.old) 2 (AnswersWord chart.now)) 2 (F.faults shelf.old) (F.faults shelf.new)) }
     ensures keeps { Keeps (F.shown shelf.old) (F.shown shelf.new) }
     ensures later { F.faults shelf.old ≤ F.faults shelf.new }
+    ensures no_fault { F.sound shelf.old → HasName (F.shown shelf.old) (word_at (map string_bytes words.now) 2) → IfErr result IsNoReadFault }
 {
-    let text = match text_under(alloc, words, 2, shelf) {
+    let text = match load(alloc, shelf, word_at(words, 2), MOST_BYTES) {
         Ok(text) => text,
-        Err(refusal) => return Err(refusal),
+        Err(error) => return Err(load_refusal(2, error)),
     };
     match read_word(alloc, text.bytes(), chart) {
         Ok(word) => Ok(word),
@@ -99,10 +93,12 @@ pub fn read_input<F: Shelf>(
     shelf: &mut F,
 ) -> Result<Input, Refusal>
     requires { IsPlay (map string_bytes words.now) }
-    ensures read { IfOk result (λ input. Reads (map string_bytes words.now) (F.shown shelf.old) input.plan input.word.items) }
-    ensures cause { IfErr result (λ refusal. HasTextCause (map string_bytes words.now) (F.shown shelf.old) (F.faults shelf.old) (F.faults shelf.new) refusal) }
+    ensures read { IfOk result (λ input. ReadsInput (map string_bytes words.now) (F.shown shelf.old) input.plan input.word.items) }
+    ensures inside { IfOk result (λ input. All (IsInBox input.plan) input.word.items) }
+    ensures cause { IfErr result (HasInputCause (map string_bytes words.now) (F.shown shelf.old) (F.faults shelf.old) (F.faults shelf.new)) }
     ensures keeps { Keeps (F.shown shelf.old) (F.shown shelf.new) }
     ensures later { F.faults shelf.old ≤ F.faults shelf.new }
+    ensures no_fault { F.sound shelf.old → HoldsNames (map string_bytes words.now) (F.shown shelf.old) → IfErr result IsNoReadFault }
 {
     let chart = match chart_under(alloc, words, shelf) {
         Ok(chart) => chart,

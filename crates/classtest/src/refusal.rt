@@ -69,7 +69,6 @@ pub fn kind_word(kind: Kind) -> &'static [u8]
         Kind::Twice => b"twice",
         Kind::OutOfBox => b"box",
         Kind::Missing => b"missing",
-        Kind::NotYet => b"not-yet",
     }
 }
 
