@@ -1,2 +1,4 @@
 pub mod Reporting
 pub mod Printing
+pub mod Answering
+pub mod Serving

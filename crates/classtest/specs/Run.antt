@@ -86,7 +86,7 @@ pub record IsServed (sound : Type 0) (call : Call) : Type 0 where
   -- over a sound shelf that holds each text named, status 5 needs that the count of `out` rose
   pub sound_shelf : sound → HoldsNames call.run.words call.run.shown → call.status ≡ 5 → Rose call.run.out_faults call.run.out_faults_after
   -- and nothing is asked of the count of the shelf
-  pub sound_complete : sound → HoldsNames call.run.words call.run.shown → (answer : Answer) → Answers call.run.words call.run.shown answer
+  pub sound_complete : sound → HoldsNames call.run.words call.run.shown → IsSome call.run.shown → (answer : Answer) → Answers call.run.words call.run.shown answer
       → (Rose call.run.out_faults call.run.out_faults_after → ⊥) → IsCarriedOut call answer ⊎ (call.status ≡ 6)
 
 -- the refusal of a text, as a reader tells it
