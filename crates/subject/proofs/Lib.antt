@@ -1,0 +1,4 @@
+pub mod Words
+pub mod Witnesses
+pub mod Lifting
+pub mod Ranks
