@@ -2,3 +2,5 @@ pub mod Words
 pub mod Witnesses
 pub mod Lifting
 pub mod Ranks
+pub mod Failures
+pub mod CallerLemmas

@@ -26,7 +26,7 @@ pub from_mere : {A : Type 0} (x y : List (List ℤ)) → ∥ A ∥₁ → (A →
 from_mere x y h f = stable x y (λ never. ∥∥₁_elim h (λ p q. absurd p) (λ a. never (f a)))
 
 -- where members of each class act alike, every vector has a class that acts like it
-pub by_classes : {S : Type 0} (s : VectorSet) (r : Partition) (m : Meaning S) → Covers r s → ActAlike s m r → ActByClasses s r m m
+pub by_classes : {S : Type 0} (s : VectorSet) (r : Partition) (m : Meaning S) → Covers s r → ActAlike s r m → ActByClasses s r m m
 by_classes s r m covers alike x h =
     let w = witnessed s r covers x h in
     let acts = λ (y : List ℤ) (k : IsInClass s r w.one y). alike w.one w.there y x k w.member in
@@ -38,8 +38,7 @@ after-swap s i a z v x y acts p q =
     ap (after i a) (append_assoc z (y ∷ []) v)
     ∙ ap (drop (length a)) (sym (ap (answer i) (append_assoc a z (y ∷ v))) ∙ acts (a ++ z) v p q ∙ ap (answer i) (append_assoc a z (x ∷ v)))
 
-module _ {S T : Type 0} (s : VectorSet) (r : Partition) (m : Meaning S) (i : Meaning T) (covers : Covers r s) (classes : ActByClasses s r m i) where
-
+module _ {S T : Type 0} (s : VectorSet) (r : Partition) (m : Meaning S) (i : Meaning T) (covers : Covers s r) (classes : ActByClasses s r m i) where
   witness_in : (x : List ℤ) (a : ActsAsClass s r m i x) → IsInClass s r a.one a.one.witness
   witness_in x a = All-contains (λ c. IsInClass s r c c.witness) r.classes a.one covers.witnessed a.there
 
@@ -53,11 +52,11 @@ module _ {S T : Type 0} (s : VectorSet) (r : Partition) (m : Meaning S) (i : Mea
       let rest = All-tail (IsIn s) x w h in
       let before = words-within s r covers u p in
       from_mere (answer i (u ++ x ∷ w)) (answer m (u ++ x ∷ w)) (classes x (All-head (IsIn s) x w h)) (λ a.
-        let y = a.one.witness in
-        let k = witness_in x a in
-        let later = equal_from equal (u ++ y ∷ []) w (All-push (Contains (witnesses r)) u y p (witness_is x a)) rest in
-        sym (a.in_other y k u w before rest) ∙ sym (ap (answer i) (append_assoc u (y ∷ []) w)) ∙ later
-        ∙ ap (answer m) (append_assoc u (y ∷ []) w) ∙ a.in_model y k u w before rest)
+      let y = a.one.witness in
+      let k = witness_in x a in
+      let later = equal_from equal (u ++ y ∷ []) w (All-push (Contains (witnesses r)) u y p (witness_is x a)) rest in
+      sym (a.in_other y k u w before rest) ∙ sym (ap (answer i) (append_assoc u (y ∷ []) w)) ∙ later
+      ∙ ap (answer m) (append_assoc u (y ∷ []) w) ∙ a.in_model y k u w before rest)
 
   -- words that lead alike over words of witnesses lead alike
   pub alike_from : (a b : Word) → IsWordOf s a → IsWordOf s b → LeadAlike (Members (witnesses r)) i a b → (z v : Word) → IsWordOf (Members (witnesses r)) z → IsWordOf s v → after i a (z ++ v) ≡ after i b (z ++ v)
@@ -66,11 +65,11 @@ module _ {S T : Type 0} (s : VectorSet) (r : Partition) (m : Meaning S) (i : Mea
       let rest = All-tail (IsIn s) x v h in
       let before = words-within s r covers z p in
       from_mere (after i a (z ++ x ∷ v)) (after i b (z ++ x ∷ v)) (classes x (All-head (IsIn s) x v h)) (λ c.
-        let y = c.one.witness in
-        let acts = c.in_other y (witness_in x c) in
-        let later = alike_from a b at bt alike (z ++ y ∷ []) v (All-push (Contains (witnesses r)) z y p (witness_is x c)) rest in
-        sym (after-swap s i a z v x y acts (All-append (IsIn s) a z at before) rest) ∙ later
-        ∙ after-swap s i b z v x y acts (All-append (IsIn s) b z bt before) rest)
+      let y = c.one.witness in
+      let acts = c.in_other y (witness_in x c) in
+      let later = alike_from a b at bt alike (z ++ y ∷ []) v (All-push (Contains (witnesses r)) z y p (witness_is x c)) rest in
+      sym (after-swap s i a z v x y acts (All-append (IsIn s) a z at before) rest) ∙ later
+      ∙ after-swap s i b z v x y acts (All-append (IsIn s) b z bt before) rest)
 
   pub lead_alike_from : (a b : Word) → IsWordOf s a → IsWordOf s b → LeadAlike (Members (witnesses r)) i a b → LeadAlike s i a b
   lead_alike_from a b at bt alike v h = alike_from a b at bt alike [] v (All-nil (Contains (witnesses r))) h

@@ -32,7 +32,6 @@ zipped_at R (x ∷ xs) (y ∷ ys) zero d e h below = h.0
 zipped_at R (x ∷ xs) (y ∷ ys) (suc i) d e h below = zipped_at R xs ys i d e h.1 (omega arith)
 
 module _ {S : Type 0} (m : Meaning S) where
-
   -- the word leads alike with the one at a place
   record IsAt (s : VectorSet) (words : List Word) (w : Word) (p : ℕ) : Type 0 where
     below : p < length words
@@ -62,7 +61,6 @@ module _ {S : Type 0} (m : Meaning S) where
   places_below s words (w ∷ ws) (p ∷ ps) h = All-cons (λ p. p < length words) p ps h.0.below (places_below s words ws ps h.1)
 
   module _ (s t : VectorSet) (within : (w : Word) → IsWordOf t w → IsWordOf s w) where
-
     -- words that lead differently have different places
     places_apart : (words ws : List Word) (ps : List ℕ) → AllZip (IsAt s words) ws ps → AllPairs (LeadDifferently t m) ws → AllPairs (λ p q. p ≢ q) ps
     places_apart words ws ps h apart i j d first second same =
@@ -70,7 +68,7 @@ module _ {S : Type 0} (m : Meaning S) where
         let a = zipped_at (IsAt s words) ws ps i [] d h (omega arith) in
         let b = zipped_at (IsAt s words) ws ps j [] d h (omega arith) in
         apart i j [] first (omega arith) (λ v k.
-          a.alike v (within v k) ∙ ap (λ p. after m (get_or words p []) v) same ∙ sym (b.alike v (within v k)))
+        a.alike v (within v k) ∙ ap (λ p. after m (get_or words p []) v) same ∙ sym (b.alike v (within v k)))
 
     few_places : (words ws : List Word) → HasPlaces s words ws → AllPairs (LeadDifferently t m) ws → length ws ≤ length words
     few_places words ws h apart =
@@ -78,25 +76,24 @@ module _ {S : Type 0} (m : Meaning S) where
         let below = places_below s words ws h.places h.each in
         let distinct = IsDistinct-from_AllPairs Decides-eqb h.places (places_apart words ws h.places h.each apart) in
         let few = length-le_from_distinct_below h.places (length words) distinct (λ q k.
-          All-contains (λ p. p < length words) h.places q below (Contains-from_any (λ x y. (Decides-eqb x y).0) q h.places k)) in
+        All-contains (λ p. p < length words) h.places q below (Contains-from_any (λ x y. (Decides-eqb x y).0) q h.places k)) in
         omega arith
 
     -- a rank over fewer words is at most a number of states over more
     pub rank_within : (k n : ℕ) → HasRank t m k → HasAtMost s m n → k ≤ n
     rank_within k n rank most =
         elim (cases_lt n k) [
-          inl more ↦ absurd (∥∥₁_elim
-            (places_of s most.words rank.words (All-weaker (IsWordOf t) (λ w. ∥ IsListed s m most.words w ∥₁) (λ w h. most.each w (within w h)) rank.words rank.are_words))
-            (λ p q. absurd p)
-            (λ h. let few = few_places most.words rank.words h rank.apart in let most = most.few in let many = rank.many in let no : ⊥ = omega arith in no))
-        | inr less ↦ less
+          | inl more ↦ absurd (∥∥₁_elim
+              (places_of s most.words rank.words (All-weaker (IsWordOf t) (λ w. ∥ IsListed s m most.words w ∥₁) (λ w h. most.each w (within w h)) rank.words rank.are_words))
+              (λ p q. absurd p)
+              (λ h. let few = few_places most.words rank.words h rank.apart in let most = most.few in let many = rank.many in let no : ⊥ = omega arith in no))
+          | inr less ↦ less
         ]
 
   pub more_states : (s : VectorSet) (n k : ℕ) → HasAtMost s m n → n ≤ k → HasAtMost s m k
   more_states s n k h le = record { words = h.words; are_words = h.are_words; few = (let few = h.few in omega arith); each = h.each }
 
-  module _ (s : VectorSet) (r : Partition) (covers : Covers r s) (alike : ActAlike s m r) where
-
+  module _ (s : VectorSet) (r : Partition) (covers : Covers s r) (alike : ActAlike s r m) where
     -- a word leads alike with its word of witnesses
     pub alike-in_witnesses : (w : Word) → IsWordOf s w → LeadAlike s m w (in_witnesses r w)
     alike-in_witnesses w h v k =
@@ -110,14 +107,14 @@ module _ {S : Type 0} (m : Meaning S) where
       are_words = All-map (IsWordOf (Members (witnesses r))) (in_witnesses r) h.words (All-weaker (IsWordOf s) _ (word-member s r covers) h.words h.are_words);
       few = rw length-map h.few;
       each = λ w k. ∥∥₁_map (h.each w (words-within s r covers w k)) (λ a.
-        let below = slice_get_within h.words a.place a.like a.there in
-        let is = same_Some (get_or h.words a.place []) a.like (sym (slice_get-get_or h.words a.place [] below) ∙ a.there) in
-        record {
-          place = a.place;
-          like = in_witnesses r a.like;
-          there = slice_get-get_or (map (in_witnesses r) h.words) a.place [] (rw length-map below) ∙ ap Some (get_or-map (in_witnesses r) h.words a.place [] [] below ∙ ap (in_witnesses r) is);
-          alike = λ v q. a.alike v (words-within s r covers v q) ∙ alike-in_witnesses a.like (subst (IsWordOf s) is (h.are_words a.place [] below)) v (words-within s r covers v q);
-        });
+          let below = slice_get_within h.words a.place a.like a.there in
+          let is = same_Some (get_or h.words a.place []) a.like (sym (slice_get-get_or h.words a.place [] below) ∙ a.there) in
+          record {
+            place = a.place;
+            like = in_witnesses r a.like;
+            there = slice_get-get_or (map (in_witnesses r) h.words) a.place [] (rw length-map below) ∙ ap Some (get_or-map (in_witnesses r) h.words a.place [] [] below ∙ ap (in_witnesses r) is);
+            alike = λ v q. a.alike v (words-within s r covers v q) ∙ alike-in_witnesses a.like (subst (IsWordOf s) is (h.are_words a.place [] below)) v (words-within s r covers v q);
+          });
     }
 
     -- nor fewer
@@ -127,11 +124,11 @@ module _ {S : Type 0} (m : Meaning S) where
       are_words = All-weaker (IsWordOf (Members (witnesses r))) (IsWordOf s) (words-within s r covers) h.words h.are_words;
       few = h.few;
       each = λ w k. ∥∥₁_map (h.each (in_witnesses r w) (word-member s r covers w k)) (λ a.
-        let below = slice_get_within h.words a.place a.like a.there in
-        let is = same_Some (get_or h.words a.place []) a.like (sym (slice_get-get_or h.words a.place [] below) ∙ a.there) in
-        let like = words-within s r covers a.like (subst (IsWordOf (Members (witnesses r))) is (h.are_words a.place [] below)) in
-        let lifted = lead_alike_from s r m m covers (by_classes s r m covers alike) (in_witnesses r w) a.like (word-within s r covers w k) like a.alike in
-        record { place = a.place; like = a.like; there = a.there; alike = λ v q. alike-in_witnesses w k v q ∙ lifted v q });
+          let below = slice_get_within h.words a.place a.like a.there in
+          let is = same_Some (get_or h.words a.place []) a.like (sym (slice_get-get_or h.words a.place [] below) ∙ a.there) in
+          let like = words-within s r covers a.like (subst (IsWordOf (Members (witnesses r))) is (h.are_words a.place [] below)) in
+          let lifted = lead_alike_from s r m m covers (by_classes s r m covers alike) (in_witnesses r w) a.like (word-within s r covers w k) like a.alike in
+          record { place = a.place; like = a.like; there = a.there; alike = λ v q. alike-in_witnesses w k v q ∙ lifted v q });
     }
 
     -- the rank is the same
@@ -142,4 +139,24 @@ module _ {S : Type 0} (m : Meaning S) where
       are_words = All-weaker (IsWordOf (Members (witnesses r))) (IsWordOf s) (words-within s r covers) h.words h.are_words;
       many = h.many;
       apart = λ i j d first second a. h.apart i j d first second (λ v k. a v (words-within s r covers v k));
+    }
+
+    -- the rank over words of witnesses
+    pub rank_over_witnesses : (n : ℕ) → HasRank s m n → HasRank (Members (witnesses r)) m n
+    rank_over_witnesses n h = record {
+      most = most_over_witnesses n h.most;
+      words = map (in_witnesses r) h.words;
+      are_words = All-map (IsWordOf (Members (witnesses r))) (in_witnesses r) h.words (All-weaker (IsWordOf s) _ (word-member s r covers) h.words h.are_words);
+      many = length-map h.words (in_witnesses r) ∙ h.many;
+      apart = λ i j d first second a.
+          let second_too : j < length h.words = subst (λ n. j < n) (length-map h.words (in_witnesses r)) second in
+          let first_too : i < length h.words = omega arith in
+          let x = get_or h.words i [] in
+          let y = get_or h.words j [] in
+          let over : LeadAlike (Members (witnesses r)) m (in_witnesses r x) (in_witnesses r y) = λ v k.
+          ap (λ u. after m u v) (sym (get_or-map (in_witnesses r) h.words i [] d first_too)) ∙ a v k ∙ ap (λ u. after m u v) (get_or-map (in_witnesses r) h.words j [] d second_too) in
+          let xs = h.are_words i [] first_too in
+          let ys = h.are_words j [] second_too in
+          let lifted = lead_alike_from s r m m covers (by_classes s r m covers alike) (in_witnesses r x) (in_witnesses r y) (word-within s r covers x xs) (word-within s r covers y ys) over in
+          h.apart i j [] first second_too (λ v k. alike-in_witnesses x xs v k ∙ lifted v k ∙ sym (alike-in_witnesses y ys v k));
     }

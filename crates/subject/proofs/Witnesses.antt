@@ -6,7 +6,7 @@ use Rattle.std.specs.Cmp.{booleans_Decides}
 use Rattle.std.specs.Cmp.Lexicographic.{pointwise}
 use Rattle.std.specs.Option.{option_map_or}
 use Rattle.std.proofs.Math.Bool.{beq}
-use Rattle.std.proofs.lemmas.List.{append_assoc, length-map, get_or-map}
+use Rattle.std.proofs.lemmas.List.{append-nil, append_assoc, length-map, get_or-map}
 use Rattle.std.proofs.lemmas.Bool.{false≢true}
 use Rattle.std.proofs.lemmas.List.Elements.{All-nil, All-cons, All-head, All-tail, All-append, All-push, All-map, All-contains, All-weaker}
 use Rattle.std.proofs.lemmas.Slice.Eq.{slice_eq-Decides}
@@ -53,8 +53,7 @@ pub record IsWitnessed (s : VectorSet) (r : Partition) (x : List ℤ) : Type 0 w
 pub contains_map : {X Y : Type 0} (f : X → Y) (xs : List X) (x : X) → Contains xs x → Contains (map f xs) (f x)
 contains_map f xs x h = (h.0, rw length-map h.1, get_or-map f xs h.0 x (f x) h.1 ∙ ap f h.2)
 
-module _ (s : VectorSet) (r : Partition) (covers : Covers r s) where
-
+module _ (s : VectorSet) (r : Partition) (covers : Covers s r) where
   pub witnessed : (x : List ℤ) → IsIn s x → IsWitnessed s r x
   witnessed x h =
       let f = find-found (λ (c : Class). pointwise beq c.pattern (pattern_of r.atoms x)) r.classes (covers.classes x h) in
@@ -85,8 +84,7 @@ module _ (s : VectorSet) (r : Partition) (covers : Covers r s) where
   pub words-within : (w : Word) → IsWordOf (Members (witnesses r)) w → IsWordOf s w
   words-within w h = All-weaker (Contains (witnesses r)) (IsIn s) members-within w h
 
-  module _ {S : Type 0} (m : Meaning S) (alike : ActAlike s m r) where
-
+  module _ {S : Type 0} (m : Meaning S) (alike : ActAlike s r m) where
     pub witness-acts : (x : List ℤ) → IsIn s x → ActsLike s m x (witness_of r x)
     witness-acts x h u v p q =
         let w = witnessed x h in
@@ -102,3 +100,8 @@ module _ (s : VectorSet) (r : Partition) (covers : Covers r s) where
         let step = witness-acts x first u (w ++ v) p (All-append (IsIn s) w v rest q) in
         let later = word-acts (u ++ y ∷ []) w v (All-push (IsIn s) u y p (witness-within x first)) rest q in
         step ∙ sym (ap (answer m) (append_assoc u (y ∷ []) (w ++ v))) ∙ later ∙ ap (answer m) (append_assoc u (y ∷ []) (in_witnesses r w ++ v))
+
+    -- a word and its word of witnesses
+    pub answers-witnesses : (w : Word) → IsWordOf s w → answer m w ≡ answer m (in_witnesses r w)
+    answers-witnesses w h =
+        ap (answer m) (sym (append-nil w)) ∙ word-acts [] w [] (All-nil (IsIn s)) h (All-nil (IsIn s)) ∙ ap (answer m) (append-nil (in_witnesses r w))

@@ -2,11 +2,13 @@
 use Rattle.std.proofs.Common.{◌≡◌, ℕ, zero, suc, ◌+◌, ◌<◌, ℤ, List, [], ◌∷◌, ◌++◌, length, take, drop, get_or, refl, sym, ap, ◌∙◌, arith}
 use Rattle.std.proofs.lemmas.List.{length-append, length-drop, append_assoc, take_more}
 use Rattle.std.proofs.Math.Seq.{drop-append_seam}
-use Rattle.subject.specs.Meaning.{Meaning, state_after, answer_from, answer, after}
-use Rattle.subject.specs.VectorSet.{Word}
+use Rattle.std.proofs.lemmas.List.Elements.{All-cons, All-weaker}
+use Rattle.lin_form.specs.Signature.{IsInInputRanges}
+use Rattle.subject.specs.Alike.{LeadAlike, ActsLike}
+use Rattle.subject.specs.Meaning.{Meaning, state_after, answer_from, answer, after, IsReached}
+use Rattle.subject.specs.VectorSet.{VectorSet, IsIn, Word}
 
 module _ {S : Type 0} (m : Meaning S) where
-
   -- the replies to u and then v
   pub answer_from-append : (s : S) (u v : Word) → answer_from m s (u ++ v) ≡ answer_from m s u ++ answer_from m (state_after m s u) v
   answer_from-append s [] v = refl
@@ -55,3 +57,23 @@ module _ {S : Type 0} (m : Meaning S) where
 
   pub moved_more : (w : Word) (i : ℕ) (x : List ℤ) (s t : S) → i < length w → x ≡ get_or w i x → s ≡ state_after m m.start (take i w) → t ≡ m.next s x → t ≡ state_after m m.start (take (i + 1) w)
   moved_more w i x s t below is at given = given ∙ ap (λ r. m.next r x) at ∙ sym (state_after-more w i x below is)
+
+  -- words that lead alike still do after one more vector
+  pub alike-goes_on : (s : VectorSet) (u w : Word) (x : List ℤ) → IsIn s x → LeadAlike s m u w → LeadAlike s m (u ++ x ∷ []) (w ++ x ∷ [])
+  alike-goes_on s u w x h alike v k =
+      let states = alike (x ∷ v) (All-cons (IsIn s) x v h k) in
+      let first = later-state u x v in
+      let second = later-state w x v in
+      after-state (u ++ x ∷ []) v ∙ first ∙ ap (drop 1) (sym (after-state u (x ∷ v)) ∙ states ∙ after-state w (x ∷ v)) ∙ sym second ∙ sym (after-state (w ++ x ∷ []) v)
+    where
+      later-state : (a : Word) (y : List ℤ) (z : Word) → answer_from m (state_after m m.start (a ++ y ∷ [])) z ≡ drop 1 (answer_from m (state_after m m.start a) (y ∷ z))
+      later-state a y z = ap (λ t. answer_from m t z) (state_after-push a y)
+
+  -- vectors with the same next state and reply in every state that is reached
+  pub same_steps-act : (s : VectorSet) (x y : List ℤ) → ((z : List ℤ) → IsIn s z → IsInInputRanges m.signature.inputs z) → ((t : S) → IsReached m t → (m.next t x ≡ m.next t y) × (m.reply t x ≡ m.reply t y)) → ActsLike s m x y
+  same_steps-act s x y within same u v p q =
+      let t = state_after m m.start u in
+      let here = same t ∣ record { word = u; in_ranges = All-weaker (IsIn s) (IsInInputRanges m.signature.inputs) within u p; leads = refl } ∣₁ in
+      answer_from-append m.start u (x ∷ v)
+      ∙ ap (λ l. answer m u ++ l) (λ i. here.1 i ∷ answer_from m (here.0 i) v)
+      ∙ sym (answer_from-append m.start u (y ∷ v))

@@ -48,10 +48,10 @@ abbrev pub in_witnesses : Partition → Word → Word
 in_witnesses r w = map (witness_of r) w
 
 -- each vector of the set has a class, and each class has its witness in it
-pub record Covers (r : Partition) (s : VectorSet) : Type 0 where
+pub record Covers (s : VectorSet) (r : Partition) : Type 0 where
   pub classes : (x : List ℤ) → IsIn s x → IsSome (class_of r x)
   pub witnessed : All (λ c. IsInClass s r c c.witness) r.classes
 
 -- the members of each class act alike in the plan
-abbrev pub ActAlike : {S : Type 0} → VectorSet → Meaning S → Partition → Type 0
-ActAlike s m r = (c : Class) → Contains r.classes c → (x y : List ℤ) → IsInClass s r c x → IsInClass s r c y → ActsLike s m x y
+abbrev pub ActAlike : {S : Type 0} → VectorSet → Partition → Meaning S → Type 0
+ActAlike s r m = (c : Class) → Contains r.classes c → (x y : List ℤ) → IsInClass s r c x → IsInClass s r c y → ActsLike s m x y

@@ -5,12 +5,18 @@
 
 mod case;
 mod cases;
+mod laws;
 mod plan;
 mod replies;
 mod step;
 
 pub use case::Case;
 pub use cases::Cases;
+pub use laws::{
+    box_lies_in_ranges, equality, leading_alike, lift, model_is_inside, rank_is_least,
+    replies_after, same_steps_act_alike, stability, states_over_witnesses, verdict_is_one,
+    witnesses_stand_in,
+};
 pub use plan::Plan;
 pub use replies::answers;
 pub use step::Step;
