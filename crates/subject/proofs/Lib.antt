@@ -3,4 +3,5 @@ pub mod Witnesses
 pub mod Lifting
 pub mod Ranks
 pub mod Failures
+pub mod Lamp
 pub mod CallerLemmas

@@ -5,3 +5,4 @@ pub mod FiniteMap
 pub mod Partition
 pub mod Tests
 pub mod Domain
+pub mod Lamp

@@ -9,6 +9,8 @@ mod laws;
 mod plan;
 mod replies;
 mod step;
+#[cfg(test)]
+mod tests;
 
 pub use case::Case;
 pub use cases::Cases;
