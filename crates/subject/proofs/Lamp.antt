@@ -1,18 +1,18 @@
 -- A lamp with a button that has three positions: 1 and 2 turn the lamp on and off, 0 does nothing. Its two states lead
 -- differently, and 1 acts like 2, but 0 does not.
-use Rattle.std.proofs.Common.{◌≡◌, ◌≢◌, ℕ, zero, suc, ◌<◌, ◌≤◌, ◌⊎◌, inl, inr, ℤ, pos, Bool, true, false, ◌&&◌, cond, List, [], ◌∷◌, ◌++◌, length, get_or, Option, None, Some, refl, sym, ap, subst, ◌∙◌, arith}
+use Rattle.std.proofs.Common.{◌≡◌, ℕ, ◌<◌, ◌≤◌, ◌⊎◌, inl, inr, ℤ, pos, Bool, true, false, ◌&&◌, cond, List, [], ◌∷◌, get_or, None, Some, refl, sym, ap, subst, ◌∙◌, arith}
 use Rattle.std.specs.List.{All}
 use Rattle.std.specs.Option.{option_map_or}
 use Rattle.std.proofs.lemmas.Int.{ints}
-use Rattle.std.proofs.lemmas.List.Elements.{All-nil, All-cons, All-head, All-tail}
+use Rattle.std.proofs.lemmas.List.Elements.{All-nil, All-cons}
 use Rattle.lin_form.specs.declared.signature.Signature.{Signature}
 use Rattle.lin_form.specs.Range.{IsInRanges}
 use Rattle.lin_form.specs.Signature.{ranges_of}
 use Rattle.subject.specs.declared.case.Case.{Case}
 use Rattle.subject.specs.Alike.{ActsLike, LeadAlike, LeadDifferently, IsListed, HasAtMost, HasRank}
-use Rattle.subject.specs.FiniteMap.{FiniteMap, next_of, reply_of, plan_of}
+use Rattle.subject.specs.FiniteMap.{next_of, plan_of}
 use Rattle.subject.specs.Lamp.{entry, lamp, pressed}
-use Rattle.subject.specs.Meaning.{Meaning, answer_from, answer, state_after, after}
+use Rattle.subject.specs.Meaning.{Meaning, answer_from, state_after}
 use Rattle.subject.specs.VectorSet.{VectorSet, IsIn, Word, IsWordOf, box_of}
 use Rattle.subject.proofs.Words.{after-state, same_steps-act}
 

@@ -1,18 +1,17 @@
 -- A vector and the witness of its class, and words of witnesses.
-use Rattle.std.proofs.Common.{cond, subst, ◌≡◌, ℕ, zero, suc, ◌+◌, ◌<◌, ℤ, Bool, true, false, List, [], ◌∷◌, ◌++◌, length, map, Contains, Option, None, Some, refl, sym, ap, ◌∙◌, arith}
+use Rattle.std.proofs.Common.{cond, subst, ◌≡◌, zero, suc, ℤ, Bool, true, false, List, [], ◌∷◌, ◌++◌, map, Contains, Option, Some, refl, sym, ap, ◌∙◌, arith}
 use Rattle.std.specs.Prelude.{find, IsSome}
-use Rattle.std.specs.List.{All}
 use Rattle.std.specs.Cmp.{booleans_Decides}
 use Rattle.std.specs.Cmp.Lexicographic.{pointwise}
 use Rattle.std.specs.Option.{option_map_or}
 use Rattle.std.proofs.Math.Bool.{beq}
 use Rattle.std.proofs.lemmas.List.{append-nil, append_assoc, length-map, get_or-map}
 use Rattle.std.proofs.lemmas.Bool.{false≢true}
-use Rattle.std.proofs.lemmas.List.Elements.{All-nil, All-cons, All-head, All-tail, All-append, All-push, All-map, All-contains, All-weaker}
+use Rattle.std.proofs.lemmas.List.Elements.{All-nil, All-head, All-tail, All-append, All-push, All-map, All-contains, All-weaker}
 use Rattle.std.proofs.lemmas.Slice.Eq.{slice_eq-Decides}
 use Rattle.subject.specs.Alike.{ActsLike}
 use Rattle.subject.specs.Meaning.{Meaning, answer}
-use Rattle.subject.specs.Partition.{Class, Partition, pattern_of, IsInClass, witnesses, class_of, witness_of, in_witnesses, Covers, ActAlike}
+use Rattle.subject.specs.Partition.{Class, Partition, pattern_of, IsInClass, witnesses, witness_of, in_witnesses, Covers, ActAlike}
 use Rattle.subject.specs.VectorSet.{VectorSet, Members, IsIn, Word, IsWordOf}
 
 -- what is found is an element that passes the test

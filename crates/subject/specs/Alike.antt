@@ -2,7 +2,7 @@
 use Rattle.std.specs.Prelude.{◌≡◌, ℕ, ◌≤◌, ℤ, List, ◌∷◌, ◌++◌, length, Some, slice_get}
 use Rattle.std.specs.List.{All, AllPairs}
 use Rattle.subject.specs.Meaning.{Meaning, answer, after}
-use Rattle.subject.specs.VectorSet.{VectorSet, IsIn, Word, IsWordOf}
+use Rattle.subject.specs.VectorSet.{VectorSet, Word, IsWordOf}
 
 -- two plans answer every word of the set alike
 abbrev pub Equal : {S T : Type 0} → VectorSet → Meaning S → Meaning T → Type 0

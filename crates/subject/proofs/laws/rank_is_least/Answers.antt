@@ -1,4 +1,4 @@
-use Rattle.std.proofs.Common.{◌≡◌, ◌≤◌, arith}
+use Rattle.std.proofs.Common.{arith}
 use Rattle.std.proofs.lemmas.List.Elements.{All-weaker}
 use Rattle.subject.specs.VectorSet.{IsIn}
 use Rattle.subject.proofs.Ranks.{rank_within, more_states}

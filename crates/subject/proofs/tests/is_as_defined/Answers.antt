@@ -1,5 +1,5 @@
-use Rattle.std.proofs.Common.{◌≡◌, ◌≤◌, List, [], sym, subst, arith}
-use Rattle.subject.specs.Alike.{ActsLike, HasAtMost, HasRank}
+use Rattle.std.proofs.Common.{◌≡◌, ◌≤◌, [], sym, subst, arith}
+use Rattle.subject.specs.Alike.{ActsLike, HasRank}
 use Rattle.subject.specs.FiniteMap.{FiniteMap, plan_of}
 use Rattle.subject.specs.Lamp.{lamp, pressed}
 use Rattle.subject.specs.VectorSet.{box_of}
@@ -30,5 +30,5 @@ returns-clause-not_one c =
     let f = c.args.plan.now in
     let rank = subst (λ g. HasRank (box_of f.signature []) (plan_of g) 2) (is_lamp f c.requires.entries) (two_states f.signature c.requires.ranges) in
     λ most.
-      let few : 2 ≤ 1 = rank_within (plan_of f) (box_of f.signature []) (box_of f.signature []) (λ w h. h) 2 1 rank most in
-      omega arith
+    let few : 2 ≤ 1 = rank_within (plan_of f) (box_of f.signature []) (box_of f.signature []) (λ w h. h) 2 1 rank most in
+    omega arith
