@@ -10,7 +10,7 @@ use Rattle.lin_form.specs.Range.{IsInRanges}
 use Rattle.lin_form.specs.Signature.{ranges_of}
 use Rattle.subject.specs.declared.case.Case.{Case}
 use Rattle.subject.specs.Alike.{ActsLike, LeadAlike, LeadDifferently, IsListed, HasAtMost, HasRank}
-use Rattle.subject.specs.FiniteMap.{next_of, plan_of}
+use Rattle.subject.specs.FiniteMap.{next_of, plan_of_map}
 use Rattle.subject.specs.Lamp.{entry, lamp, pressed}
 use Rattle.subject.specs.Meaning.{Meaning, answer_from, state_after}
 use Rattle.subject.specs.VectorSet.{VectorSet, IsIn, Word, IsWordOf, box_of}
@@ -51,7 +51,7 @@ unfolding IsEither
 next_either t x (inl e) = subst (λ s. IsEither (next_of lamp s x)) (sym e) (from_off _ _)
 next_either t x (inr e) = subst (λ s. IsEither (next_of lamp s x)) (sym e) (from_on _ _)
 
-state_either : (sg : Signature) (t : ℕ) (w : Word) → IsEither t → IsEither (state_after (plan_of (record { signature = sg; entries = lamp })) t w)
+state_either : (sg : Signature) (t : ℕ) (w : Word) → IsEither t → IsEither (state_after (plan_of_map (record { signature = sg; entries = lamp })) t w)
 state_either sg t [] h = h
 state_either sg t (x ∷ w) h = state_either sg (next_of lamp t x) w (next_either t x h)
 
@@ -63,7 +63,7 @@ second_apart e = cc
 
 module _ (sg : Signature) (ranged : ranges_of sg.inputs ≡ (pos 0, pos 2) ∷ []) where
   abbrev m : Meaning ℕ
-  m = plan_of (record { signature = sg; entries = lamp })
+  m = plan_of_map (record { signature = sg; entries = lamp })
 
   abbrev s : VectorSet
   s = box_of sg []

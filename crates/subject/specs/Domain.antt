@@ -3,7 +3,7 @@ use Rattle.std.specs.Prelude.{◌≡◌, ◌↔◌, ℕ, ℤ, List, map, Contain
 use Rattle.lin_form.specs.declared.signature.Signature.{Signature}
 use Rattle.lin_form.specs.Signature.{ranges_of}
 use Rattle.subject.specs.Alike.{Equal, HasAtMost, ActsLike}
-use Rattle.subject.specs.FiniteMap.{FiniteMap, plan_of}
+use Rattle.subject.specs.FiniteMap.{FiniteMap, plan_of_map}
 use Rattle.subject.specs.Meaning.{Meaning}
 use Rattle.subject.specs.Partition.{Class, Partition, IsInClass}
 use Rattle.subject.specs.Tests.{TestCase, Passes}
@@ -39,4 +39,4 @@ pub record Inside {S T : Type 0} (m : Meaning S) (r : Partition) (n : ℕ) (i : 
 
 -- the tests are complete: every finite map inside passes exactly when it answers every word of the box as the model does
 abbrev pub Complete : {S : Type 0} → Meaning S → Partition → ℕ → List TestCase → Type 0
-Complete m r n tests = (f : FiniteMap) → Inside m r n (plan_of f) → (Passes (plan_of f) tests ↔ Equal (box m r) (plan_of f) m)
+Complete m r n tests = (f : FiniteMap) → Inside m r n (plan_of_map f) → (Passes (plan_of_map f) tests ↔ Equal (box m r) (plan_of_map f) m)

@@ -29,8 +29,8 @@ abbrev pub reply_of : List Case → ℕ → List ℤ → List ℤ
 reply_of entries state input = option_map_or (λ entry. entry.reply) (entry_of entries state input) []
 
 -- it starts in 0
-abbrev pub plan_of : FiniteMap → Meaning ℕ
-plan_of f = record {
+abbrev pub plan_of_map : FiniteMap → Meaning ℕ
+plan_of_map f = record {
   signature = f.signature;
   start = 0;
   next = next_of f.entries;

@@ -35,9 +35,9 @@ impl Plan for Cases {
     type State = u32;
 
     ghost use Rattle.std.proofs.lemmas.Bool.Decides.{Decides-eqb};
-    ghost use Rattle.subject.specs.FiniteMap.{plan_of};
+    ghost use Rattle.subject.specs.FiniteMap.{plan_of_map};
 
-    ghost plan = { plan_of };
+    ghost plan = { plan_of_map };
 
     fn signature(&self) -> &Signature {
         &self.signature

@@ -3,7 +3,7 @@ ghost use Rattle.std.specs.Prelude.{◌≡◌, ◌↔◌, ℕ, pos, [], ◌∷�
 ghost use Rattle.std.specs.List.{All};
 ghost use Rattle.lin_form.specs.Signature.{IsInInputRanges, ranges_of};
 ghost use Rattle.subject.specs.Alike.{ActsLike, HasAtMost, HasRank};
-ghost use Rattle.subject.specs.FiniteMap.{plan_of};
+ghost use Rattle.subject.specs.FiniteMap.{plan_of_map};
 ghost use Rattle.subject.specs.VectorSet.{box_of};
 ghost use Rattle.subject.specs.Lamp.{entry, lamp, pressed};
 
@@ -139,10 +139,10 @@ fn lamp(rt: &impl Abort, alloc: Global) -> Result<Cases, AllocError>
 fn is_as_defined(plan: &Cases)
     requires entries { plan.now.entries ≡ lamp }
     requires ranges { ranges_of plan.now.signature.inputs ≡ (pos 0, pos 2) ∷ [] }
-    ensures alike { ActsLike (box_of plan.now.signature []) (plan_of plan.now) (pressed 1) (pressed 2) }
-    ensures apart { ActsLike (box_of plan.now.signature []) (plan_of plan.now) (pressed 0) (pressed 1) → ⊥ }
-    ensures two { HasRank (box_of plan.now.signature []) (plan_of plan.now) 2 }
-    ensures not_one { HasAtMost (box_of plan.now.signature []) (plan_of plan.now) 1 → ⊥ }
+    ensures alike { ActsLike (box_of plan.now.signature []) (plan_of_map plan.now) (pressed 1) (pressed 2) }
+    ensures apart { ActsLike (box_of plan.now.signature []) (plan_of_map plan.now) (pressed 0) (pressed 1) → ⊥ }
+    ensures two { HasRank (box_of plan.now.signature []) (plan_of_map plan.now) 2 }
+    ensures not_one { HasAtMost (box_of plan.now.signature []) (plan_of_map plan.now) 1 → ⊥ }
 {}
 
 #[test]

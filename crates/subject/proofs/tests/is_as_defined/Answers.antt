@@ -1,6 +1,6 @@
 use Rattle.std.proofs.Common.{◌≡◌, ◌≤◌, [], sym, subst, arith}
 use Rattle.subject.specs.Alike.{ActsLike, HasRank}
-use Rattle.subject.specs.FiniteMap.{FiniteMap, plan_of}
+use Rattle.subject.specs.FiniteMap.{FiniteMap, plan_of_map}
 use Rattle.subject.specs.Lamp.{lamp, pressed}
 use Rattle.subject.specs.VectorSet.{box_of}
 use Rattle.subject.proofs.Lamp.{presses_alike, presses_apart, two_states}
@@ -13,22 +13,22 @@ is_lamp f e = λ i. record { signature = f.signature; entries = sym e i }
 pub returns-clause-alike : goal.returns-clause-alike
 returns-clause-alike c =
     let f = c.args.plan.now in
-    subst (λ g. ActsLike (box_of f.signature []) (plan_of g) (pressed 1) (pressed 2)) (is_lamp f c.requires.entries) (presses_alike f.signature c.requires.ranges)
+    subst (λ g. ActsLike (box_of f.signature []) (plan_of_map g) (pressed 1) (pressed 2)) (is_lamp f c.requires.entries) (presses_alike f.signature c.requires.ranges)
 
 pub returns-clause-apart : goal.returns-clause-apart
 returns-clause-apart c =
     let f = c.args.plan.now in
-    subst (λ g. ActsLike (box_of f.signature []) (plan_of g) (pressed 0) (pressed 1) → ⊥) (is_lamp f c.requires.entries) (presses_apart f.signature c.requires.ranges)
+    subst (λ g. ActsLike (box_of f.signature []) (plan_of_map g) (pressed 0) (pressed 1) → ⊥) (is_lamp f c.requires.entries) (presses_apart f.signature c.requires.ranges)
 
 pub returns-clause-two : goal.returns-clause-two
 returns-clause-two c =
     let f = c.args.plan.now in
-    subst (λ g. HasRank (box_of f.signature []) (plan_of g) 2) (is_lamp f c.requires.entries) (two_states f.signature c.requires.ranges)
+    subst (λ g. HasRank (box_of f.signature []) (plan_of_map g) 2) (is_lamp f c.requires.entries) (two_states f.signature c.requires.ranges)
 
 pub returns-clause-not_one : goal.returns-clause-not_one
 returns-clause-not_one c =
     let f = c.args.plan.now in
-    let rank = subst (λ g. HasRank (box_of f.signature []) (plan_of g) 2) (is_lamp f c.requires.entries) (two_states f.signature c.requires.ranges) in
+    let rank = subst (λ g. HasRank (box_of f.signature []) (plan_of_map g) 2) (is_lamp f c.requires.entries) (two_states f.signature c.requires.ranges) in
     λ most.
-    let few : 2 ≤ 1 = rank_within (plan_of f) (box_of f.signature []) (box_of f.signature []) (λ w h. h) 2 1 rank most in
+    let few : 2 ≤ 1 = rank_within (plan_of_map f) (box_of f.signature []) (box_of f.signature []) (λ w h. h) 2 1 rank most in
     omega arith
