@@ -4,4 +4,5 @@ pub mod Lifting
 pub mod Ranks
 pub mod Failures
 pub mod Lamp
+pub mod Silent
 pub mod CallerLemmas

@@ -78,16 +78,23 @@ module _ {S : Type 0} (m : Meaning S) where
         All-contains (λ p. p < length words) h.places q below (Contains-from_any (λ x y. (Decides-eqb x y).0) q h.places k)) in
         omega arith
 
-    -- a rank over fewer words is at most a number of states over more
-    pub rank_within : (k n : ℕ) → HasRank t m k → HasAtMost s m n → k ≤ n
-    rank_within k n rank most =
-        elim (cases_lt n k) [
+    -- words that lead pairwise differently over fewer words are at most as many as the states over more
+    pub few_apart : (ws : List Word) (n : ℕ) → All (IsWordOf t) ws → AllPairs (LeadDifferently t m) ws → HasAtMost s m n → length ws ≤ n
+    few_apart ws n all apart most =
+        elim (cases_lt n (length ws)) [
           | inl more ↦ absurd (∥∥₁_elim
-              (places_of s most.words rank.words (All-weaker (IsWordOf t) (λ w. ∥ IsListed s m most.words w ∥₁) (λ w h. most.each w (within w h)) rank.words rank.are_words))
+              (places_of s most.words ws (All-weaker (IsWordOf t) (λ w. ∥ IsListed s m most.words w ∥₁) (λ w h. most.each w (within w h)) ws all))
               (λ p q. absurd p)
-              (λ h. let few = few_places most.words rank.words h rank.apart in let most = most.few in let many = rank.many in let no : ⊥ = omega arith in no))
+              (λ h. let few = few_places most.words ws h apart in let most = most.few in let no : ⊥ = omega arith in no))
           | inr less ↦ less
         ]
+
+    -- a rank over fewer words is at most the number of states over more
+    pub rank_within : (k n : ℕ) → HasRank t m k → HasAtMost s m n → k ≤ n
+    rank_within k n rank most =
+        let few = few_apart rank.words n rank.are_words rank.apart most in
+        let many = rank.many in
+        omega arith
 
   pub more_states : (s : VectorSet) (n k : ℕ) → HasAtMost s m n → n ≤ k → HasAtMost s m k
   more_states s n k h le = record { words = h.words; are_words = h.are_words; few = (let few = h.few in omega arith); each = h.each }

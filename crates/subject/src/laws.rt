@@ -1,6 +1,6 @@
 //! What holds of every plan, of answers and of words. Each law is a function's contract; the function does nothing.
 ghost use Rattle.std.specs.Prelude.{◌≡◌, ◌⊎◌, ℕ, ℤ, ◌≤◌, ◌++◌, [], ◌∷◌, List, length};
-ghost use Rattle.std.specs.List.{All};
+ghost use Rattle.std.specs.List.{All, AllPairs};
 ghost use Rattle.lin_form.specs.declared.literal.Literal.{Literal};
 ghost use Rattle.lin_form.specs.Signature.{IsInInputRanges};
 ghost use Rattle.subject.specs.Alike.{ActsLike, Equal, HasAtMost, HasRank, LeadAlike, LeadDifferently};
@@ -62,13 +62,16 @@ pub fn stability<P: Plan, Q: Plan>(plan: &P, other: &Q)
 {}
 
 /// A plan has one rank, which is the least number of states that it has at most. Over fewer vectors the rank is no
-/// greater.
+/// greater, and no more words lead pairwise differently.
 pub fn rank_is_least<P: Plan>(plan: &P)
     ensures least { let m = P.plan plan.now in (s : VectorSet) (k n : ℕ) → HasRank s m k → HasAtMost s m n → k ≤ n }
     ensures one { let m = P.plan plan.now in (s : VectorSet) (k n : ℕ) → HasRank s m k → HasRank s m n → k ≡ n }
     ensures more { let m = P.plan plan.now in (s : VectorSet) (n k : ℕ) → HasAtMost s m n → n ≤ k → HasAtMost s m k }
     ensures within { let m = P.plan plan.now in
         (s t : VectorSet) (k n : ℕ) → ((x : List ℤ) → IsIn t x → IsIn s x) → HasRank t m k → HasAtMost s m n → k ≤ n }
+    ensures apart { let m = P.plan plan.now in
+        (s t : VectorSet) (words : List Word) (n : ℕ) → ((x : List ℤ) → IsIn t x → IsIn s x) → All (IsWordOf t) words
+        → AllPairs (LeadDifferently t m) words → HasAtMost s m n → length words ≤ n }
 {}
 
 /// Where members of a class act alike, a word and its word of witnesses have equal answers.

@@ -3,9 +3,10 @@ ghost use Rattle.std.specs.Prelude.{◌≡◌, ◌↔◌, ℕ, pos, [], ◌∷�
 ghost use Rattle.std.specs.List.{All};
 ghost use Rattle.lin_form.specs.Signature.{IsInInputRanges, ranges_of};
 ghost use Rattle.subject.specs.Alike.{ActsLike, HasAtMost, HasRank};
+ghost use Rattle.subject.specs.Domain.{Complete};
 ghost use Rattle.subject.specs.FiniteMap.{plan_of_map};
 ghost use Rattle.subject.specs.VectorSet.{box_of};
-ghost use Rattle.subject.specs.Lamp.{entry, lamp, pressed};
+ghost use Rattle.subject.specs.Lamp.{entry, lamp, one_class, one_press, pressed};
 
 use super::*;
 use lin_form::{Input, Inputs, Name, Names, Reply, Signature, Vector};
@@ -24,14 +25,15 @@ fn name(rt: &impl Abort, text: &str) -> Name {
     Name::from_bytes(text.as_bytes())
 }
 
-/// One input from 0 to 2, and one output.
-fn signature(rt: &impl Abort, alloc: Global) -> Result<Signature, AllocError>
-    ensures { IfOk result (λ signature. ranges_of signature.inputs ≡ (pos 0, pos 2) ∷ []) }
+/// One input from 0 to a number, and one output.
+fn signature(rt: &impl Abort, alloc: Global, most: u32) -> Result<Signature, AllocError>
+    ensures { IfOk result (λ signature. ranges_of signature.inputs ≡ (pos 0, pos most) ∷ []) }
 {
+    assert!(rt; most <= 1_000_000);
     let button = Input {
         name: name(rt, "button"),
         lo: 0,
-        hi: 2,
+        hi: most as i64,
     };
     let inputs = vec![in alloc; button]?;
     let outputs = vec![in alloc; name(rt, "light")]?;
@@ -52,7 +54,7 @@ fn cases(rt: &impl Abort, alloc: Global, rows: &[Row]) -> Result<Cases, AllocErr
             reply: Reply::from_slice(reply),
         })?;
     }
-    Ok(Cases::new(signature(rt, alloc)?, entries))
+    Ok(Cases::new(signature(rt, alloc, 2)?, entries))
 }
 
 /// Whether each vector is in the signature's ranges.
@@ -132,7 +134,7 @@ fn lamp(rt: &impl Abort, alloc: Global) -> Result<Cases, AllocError>
         press(alloc, 1, 2, 0, 0),
         press(alloc, 0, 1, 7, 9),
     ]?;
-    Ok(Cases::new(signature(rt, alloc)?, entries))
+    Ok(Cases::new(signature(rt, alloc, 2)?, entries))
 }
 
 /// The two positions act alike, the position 0 does not act like them, and there are two states and not one.
@@ -144,6 +146,29 @@ fn is_as_defined(plan: &Cases)
     ensures two { HasRank (box_of plan.now.signature []) (plan_of_map plan.now) 2 }
     ensures not_one { HasAtMost (box_of plan.now.signature []) (plan_of_map plan.now) 1 → ⊥ }
 {}
+
+/// A button with one position, which does nothing.
+fn silent(rt: &impl Abort, alloc: Global) -> Result<Cases, AllocError>
+    ensures entries { IfOk result (λ cases. cases.entries ≡ []) }
+    ensures ranges { IfOk result (λ cases. ranges_of cases.signature.inputs ≡ (pos 0, pos 0) ∷ []) }
+{
+    Ok(Cases::new(signature(rt, alloc, 0)?, Vec::new(alloc)))
+}
+
+/// One press is a complete test at the bound 1, and no test at all is not.
+fn is_tested(plan: &Cases)
+    requires entries { plan.now.entries ≡ [] }
+    requires ranges { ranges_of plan.now.signature.inputs ≡ (pos 0, pos 0) ∷ [] }
+    ensures enough { Complete (plan_of_map plan.now) one_class 1 one_press }
+    ensures too_few { Complete (plan_of_map plan.now) one_class 1 [] → ⊥ }
+{}
+
+#[test]
+fn a_button_that_does_nothing(rt: HostRuntime) -> Result<(), Fail> {
+    let plan = silent(&rt, rt.alloc())?;
+    is_tested(&plan);
+    expect(&rt, rt.alloc(), &plan, (&[0], &[&[]]))
+}
 
 #[test]
 fn a_lamp(rt: HostRuntime) -> Result<(), Fail> {
