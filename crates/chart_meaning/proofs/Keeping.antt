@@ -1,10 +1,9 @@
 -- What a step keeps: from a configuration it leads to a configuration.
-use Rattle.std.proofs.Common.{◌≡◌, ℕ, zero, suc, ◌<◌, ◌≤◌, Bool, true, false, cond, List, [], ◌∷◌, ◌++◌, length, set, Option, None, Some, ℤ, pos, ◌+ℤ◌, if◌then◌else◌, refl, ap, sym, subst, ◌∙◌, arith}
-use Rattle.std.specs.Prelude.{slice_get, find, position, unsigned_abs, Contains, option_and_then}
+use Rattle.std.proofs.Common.{◌≡◌, ℕ, zero, suc, ◌<◌, Bool, true, false, cond, List, [], ◌∷◌, ◌++◌, length, set, Option, None, Some, ℤ, pos, if◌then◌else◌, refl, sym, subst, ◌∙◌, arith}
+use Rattle.std.specs.Prelude.{slice_get, find, position, unsigned_abs, Contains}
 use Rattle.std.specs.Option.{option_map_or, option_or}
 use Rattle.std.specs.List.{All}
 use Rattle.std.proofs.lemmas.Bool.{false≢true}
-use Rattle.std.proofs.lemmas.Int.{ints}
 use Rattle.std.proofs.lemmas.List.Elements.{All-nil, All-cons, All-head, All-tail, All-append}
 use Rattle.std.proofs.lemmas.List.Quantifiers.{position-Some}
 use Rattle.std.proofs.lemmas.Option.{same_Some}
@@ -13,12 +12,10 @@ use Rattle.lin_form.specs.Form.{IsModerate, sum_of_products}
 use Rattle.lin_form.specs.Padded.{padded}
 use Rattle.lin_form.specs.Range.{AreWithin}
 use Rattle.lin_form.proofs.CallerLemmas.{sum_of_products-bound, unsigned_abs-add-le}
-use Rattle.std.proofs.Math.Nat.{mul-le-mul_right}
 use Rattle.chart_model.specs.declared.action.Action.{Action}
 use Rattle.chart_model.specs.declared.action.Place.{Place}
 use Rattle.chart_model.specs.declared.action.Place.TheVariants as place
 use Rattle.chart_model.specs.declared.chart.Chart.{Chart}
-use Rattle.chart_model.specs.declared.state.State.{State}
 use Rattle.chart_model.specs.declared.transition.Transition.{Transition}
 use Rattle.chart_model.specs.Chart.{IsAction, IsMemory, IsTransition}
 use Rattle.chart_model.specs.States.{is_top_start}

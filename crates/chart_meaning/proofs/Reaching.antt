@@ -1,5 +1,5 @@
 -- Every configuration that is reached from the start is one of the chart.
-use Rattle.std.proofs.Common.{◌≡◌, ℕ, ℤ, List, [], ◌∷◌, Option, None, Some, subst}
+use Rattle.std.proofs.Common.{ℕ, List, [], ◌∷◌, Option, None, Some, subst}
 use Rattle.std.specs.List.{AllZip}
 use Rattle.std.proofs.Math.Logic.{∥∥₁_elim}
 use Rattle.std.proofs.Props.{props}
@@ -7,7 +7,7 @@ use Rattle.chart_model.specs.declared.chart.Chart.{Chart}
 use Rattle.subject.specs.Meaning.{IsReached, state_after}
 use Rattle.subject.specs.VectorSet.{Word}
 use Rattle.chart_meaning.specs.Configuration.{Configuration}
-use Rattle.chart_meaning.specs.IsConfiguration.{IsConfiguration, IsInMemory, IsLastOf}
+use Rattle.chart_meaning.specs.IsConfiguration.{IsConfiguration, IsLastOf}
 use Rattle.chart_meaning.specs.Plan.{plan_of_chart}
 use Rattle.chart_meaning.specs.Step.{next_of, start_of}
 use Rattle.chart_meaning.proofs.Keeping.{IsConfiguration-next, IsConfiguration-start}

@@ -3,6 +3,7 @@ ghost use Rattle.std.specs.Prelude.{◌≡◌, ◌+◌, ◌<◌, ◌≤◌, ◌�
 ghost use Rattle.std.specs.List.{All, range_with_len};
 ghost use Rattle.std.specs.Option.{ForSome};
 ghost use Rattle.lin_form.specs.Range.{IsCount};
+ghost use Rattle.lin_form.specs.Signature.{IsInInputRanges};
 ghost use Rattle.chart_model.specs.Chart.{AreNames, IsAction, IsFormOver, IsGuard, IsMemory, IsState, IsTransition, range_size};
 ghost use Rattle.chart_model.specs.States.{IsTree, is_start_child_of, is_top_start};
 ghost use Rattle.chart_model.specs.declared.state.State.{State};
@@ -17,6 +18,7 @@ use sqlite_items::Items;
 use std::alloc::{AllocError, Global};
 use std::process::Abort;
 use std::test::Fail;
+use subject::{Plan, answers};
 
 /// Whether the memory n is assigned, or else the output o; and a sum's coefficient of n and its constant.
 type Assignment = (bool, i64, i64);
@@ -575,5 +577,42 @@ fn configurations_are_compared(rt: HostRuntime) -> Result<(), Fail> {
     let down = plan.step(&start, &high).state;
     assert_ne!(rt; up, down);
     assert_eq!(rt; plan.step(&up, &low).state, up);
+    Ok(())
+}
+
+/// Whether each vector is in the signature's ranges.
+fn are_in_ranges(signature: &Signature, word: &[Vector]) -> bool
+    ensures { IsTrue result ↔ All (IsInInputRanges signature.now.inputs) word.now }
+{
+    word.iter().all(|vector| signature.inputs.contains(vector))
+}
+
+/// Compares what a plan answers to a case's inputs with the replies that are expected.
+fn check_answers<P: Plan>(
+    rt: &impl Abort,
+    alloc: Global,
+    plan: &P,
+    case: &Case,
+) -> Result<(), AllocError> {
+    let mut word = Vec::new(alloc);
+    for (input, _) in case.steps {
+        word.push(Vector::from_slice(alloc, &[*input]))?;
+    }
+    assert!(rt; are_in_ranges(plan.signature(), word.as_slice()));
+    let replies = answers(alloc, plan, word.as_slice())?;
+    assert_eq!(rt; replies.len(), case.steps.len());
+    for (reply, (_, want)) in replies.iter().zip(case.steps) {
+        assert_eq!(rt; *reply, Reply::from_slice(&[*want]), "{}", case.name);
+    }
+    Ok(())
+}
+
+#[test]
+fn answers_of_a_chart(rt: HostRuntime) -> Result<(), Fail> {
+    let alloc = rt.alloc();
+    for case in &[COUNT, NESTED_HISTORY] {
+        let chart = chart(&rt, alloc, 0, case.range, case.states, case.transitions)?;
+        check_answers(&rt, alloc, &ChartPlan::new(alloc, chart)?, case)?;
+    }
     Ok(())
 }
