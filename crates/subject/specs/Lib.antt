@@ -5,4 +5,5 @@ pub mod FiniteMap
 pub mod Partition
 pub mod Tests
 pub mod Domain
+pub mod Method
 pub mod Lamp

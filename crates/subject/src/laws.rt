@@ -1,11 +1,12 @@
 //! What holds of every plan, of answers and of words. Each law is a function's contract; the function does nothing.
-ghost use Rattle.std.specs.Prelude.{◌≡◌, ◌⊎◌, ℕ, ℤ, ◌≤◌, ◌++◌, [], ◌∷◌, List, length};
+ghost use Rattle.std.specs.Prelude.{◌≡◌, ◌⊎◌, ℕ, ℤ, ◌+◌, ◌-◌, ◌≤◌, ◌++◌, [], ◌∷◌, List, length};
 ghost use Rattle.std.specs.List.{All, AllPairs};
 ghost use Rattle.lin_form.specs.declared.literal.Literal.{Literal};
 ghost use Rattle.lin_form.specs.Signature.{IsInInputRanges};
 ghost use Rattle.subject.specs.Alike.{ActsLike, Equal, HasAtMost, HasRank, LeadAlike, LeadDifferently};
 ghost use Rattle.subject.specs.Domain.{ActByClasses, Inside, box};
 ghost use Rattle.subject.specs.Meaning.{IsReached, after, answer, answer_from, state_after};
+ghost use Rattle.subject.specs.Method.{IsTested};
 ghost use Rattle.subject.specs.Partition.{ActAlike, Covers, Partition, in_witnesses, witnesses};
 ghost use Rattle.subject.specs.Tests.{Failure, IsFirstFailure, Passes, TestCase};
 ghost use Rattle.subject.specs.VectorSet.{IsIn, IsWordOf, Members, VectorSet, Word, box_of};
@@ -118,6 +119,22 @@ pub fn lift<P: Plan, Q: Plan>(model: &P, other: &Q)
 pub fn model_is_inside<P: Plan>(model: &P)
     ensures { let m = P.plan model.now in
         (r : Partition) (n : ℕ) → Covers (box m r) r → ActAlike (box m r) r m → HasAtMost (box m r) m n → Inside m r n m }
+{}
+
+/// The theorem of the W-method (Chow 1978): a plan with at most `d` states more than the cover has words, counted over
+/// words of these or more vectors, that is tested with tails of at most `d + 1` vectors is equal to the model.
+pub fn tested_plan_is_equal<P: Plan, Q: Plan>(model: &P, other: &Q)
+    ensures { let m = P.plan model.now in let i = Q.plan other.now in
+        (s t : VectorSet) (cover marks : List Word) (d : ℕ) → ((x : List ℤ) → IsIn t x → IsIn s x)
+        → IsTested t m i cover marks d → HasAtMost s i (length cover + d) → Equal t i m }
+{}
+
+/// The same on words of witnesses (Huang and Peleska): a plan inside the fault domain that is so tested is equal to the
+/// model on every word of the box.
+pub fn tested_plan_inside_is_equal<P: Plan, Q: Plan>(model: &P, other: &Q)
+    ensures { let m = P.plan model.now in let i = Q.plan other.now in
+        (r : Partition) (n : ℕ) (cover marks : List Word) → Covers (box m r) r → length cover ≤ n → Inside m r n i
+        → IsTested (Members (witnesses r)) m i cover marks (n - length cover) → Equal (box m r) i m }
 {}
 
 /// A plan passes all tests or has one first failure, and not both.
