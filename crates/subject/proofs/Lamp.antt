@@ -3,6 +3,7 @@
 use Rattle.std.proofs.Common.{◌≡◌, ℕ, ◌<◌, ◌≤◌, ◌⊎◌, inl, inr, ℤ, pos, Bool, true, false, ◌&&◌, cond, List, [], ◌∷◌, get_or, None, Some, refl, sym, ap, subst, ◌∙◌, arith}
 use Rattle.std.specs.List.{All}
 use Rattle.std.specs.Option.{option_map_or}
+use Rattle.std.proofs.Math.Logic.{∥∥₁_elim}
 use Rattle.std.proofs.lemmas.Int.{ints}
 use Rattle.std.proofs.lemmas.List.Elements.{All-nil, All-cons}
 use Rattle.lin_form.specs.declared.signature.Signature.{Signature}
@@ -12,6 +13,7 @@ use Rattle.subject.specs.declared.case.Case.{Case}
 use Rattle.subject.specs.Alike.{ActsLike, LeadAlike, LeadDifferently, IsListed, HasAtMost, HasRank}
 use Rattle.subject.specs.FiniteMap.{next_of, plan_of_map}
 use Rattle.subject.specs.Lamp.{entry, lamp, pressed}
+use Rattle.subject.specs.Method.{AgreeOn, IsTested}
 use Rattle.subject.specs.Meaning.{Meaning, answer_from, state_after}
 use Rattle.subject.specs.VectorSet.{VectorSet, IsIn, Word, IsWordOf, box_of}
 use Rattle.subject.proofs.Words.{after-state, same_steps-act}
@@ -117,3 +119,27 @@ module _ (sg : Signature) (ranged : ranges_of sg.inputs ≡ (pos 0, pos 2) ∷ [
   -- the rank of the lamp is 2
   pub two_states : HasRank s m 2
   two_states = record { most = two_at_most; words = ways; are_words = are_words; many = refl; apart = apart_at }
+
+  agree_apart : AgreeOn m ((pressed 1 ∷ []) ∷ []) [] (pressed 1 ∷ []) → ⊥
+  agree_apart agree =
+      let same : ((pos 1 ∷ []) ∷ []) ≡ ((pos 0 ∷ []) ∷ []) = agree 0 [] (omega arith) in
+      second_apart same
+
+  marks_apart : (i j : ℕ) (d : Word) → i < j → j < 2 → AgreeOn m ((pressed 1 ∷ []) ∷ []) (get_or ways i d) (get_or ways j d) → ⊥
+  marks_apart i j d less below =
+      let first : i ≡ 0 = omega arith in
+      let second : j ≡ 1 = omega arith in
+      subst (λ k. AgreeOn m ((pressed 1 ∷ []) ∷ []) (get_or ways k d) (get_or ways j d) → ⊥) (sym first) (subst (λ k. AgreeOn m ((pressed 1 ∷ []) ∷ []) [] (get_or ways k d) → ⊥) (sym second) agree_apart)
+
+  -- the lamp passes every test of the method of itself
+  pub lamp_is_tested : (d : ℕ) → IsTested s m m ways ((pressed 1 ∷ []) ∷ []) d
+  unfolding two_at_most
+  lamp_is_tested d = record {
+    begins = (0, omega arith, refl);
+    cover_words = are_words;
+    mark_words = All-cons (IsWordOf s) (pressed 1 ∷ []) [] (word_of 1 (omega arith)) (All-nil (IsWordOf s));
+    some_mark = omega arith;
+    whole = λ w h never. ∥∥₁_elim (two_at_most.each w h) (λ p q. absurd p) never;
+    apart = marks_apart;
+    answers = λ p z w a b c e. refl;
+  }

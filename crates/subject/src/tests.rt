@@ -5,6 +5,7 @@ ghost use Rattle.lin_form.specs.Signature.{IsInInputRanges, ranges_of};
 ghost use Rattle.subject.specs.Alike.{ActsLike, HasAtMost, HasRank};
 ghost use Rattle.subject.specs.Domain.{Complete};
 ghost use Rattle.subject.specs.FiniteMap.{plan_of_map};
+ghost use Rattle.subject.specs.Method.{IsTested};
 ghost use Rattle.subject.specs.VectorSet.{box_of};
 ghost use Rattle.subject.specs.Lamp.{entry, lamp, one_class, one_press, pressed};
 
@@ -137,7 +138,8 @@ fn lamp(rt: &impl Abort, alloc: Global) -> Result<Cases, AllocError>
     Ok(Cases::new(signature(rt, alloc, 2)?, entries))
 }
 
-/// The two positions act alike, the position 0 does not act like them, and there are two states and not one.
+/// The two positions act alike, the position 0 does not act like them, there are two states and not one, and the lamp
+/// is tested by the empty word and a press, which a press tells apart.
 fn is_as_defined(plan: &Cases)
     requires entries { plan.now.entries ≡ lamp }
     requires ranges { ranges_of plan.now.signature.inputs ≡ (pos 0, pos 2) ∷ [] }
@@ -145,6 +147,8 @@ fn is_as_defined(plan: &Cases)
     ensures apart { ActsLike (box_of plan.now.signature []) (plan_of_map plan.now) (pressed 0) (pressed 1) → ⊥ }
     ensures two { HasRank (box_of plan.now.signature []) (plan_of_map plan.now) 2 }
     ensures not_one { HasAtMost (box_of plan.now.signature []) (plan_of_map plan.now) 1 → ⊥ }
+    ensures tested { let m = plan_of_map plan.now in
+        (d : ℕ) → IsTested (box_of plan.now.signature []) m m ([] ∷ (pressed 1 ∷ []) ∷ []) ((pressed 1 ∷ []) ∷ []) d }
 {}
 
 /// A button with one position, which does nothing.
