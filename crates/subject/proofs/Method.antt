@@ -1,18 +1,18 @@
 -- The theorem of the W-method over words: a plan with few states that answers the tests as the model does answers
 -- every word so. The marks of each word of the cover may be its own (Fujiwara and others 1991).
-use Rattle.std.proofs.Common.{◌≡◌, ℕ, suc, ◌+◌, ◌-◌, ◌<◌, ◌≤◌, ◌⊎◌, inl, inr, ℤ, List, [], ◌∷◌, ◌++◌, length, take, drop, get_or, Contains, Some, refl, sym, ap, subst, ◌∙◌, arith}
+use Rattle.std.proofs.Common.{◌≡◌, ℕ, suc, ◌+◌, ◌-◌, ◌<◌, ◌≤◌, inl, inr, ℤ, List, [], ◌∷◌, ◌++◌, length, take, drop, get_or, Contains, refl, sym, ap, subst, ◌∙◌, arith}
 use Rattle.std.proofs.Math.Seq.{take-append_seam}
 use Rattle.std.proofs.lemmas.Bool.{cases_lt}
 use Rattle.std.specs.List.{All, AllPairs}
 use Rattle.std.proofs.lemmas.List.{append_assoc, length-append, get_or_default}
-use Rattle.std.proofs.lemmas.List.Elements.{All-nil, All-cons, All-head, All-tail, All-append, All-push, All-contains, All-contains_itself}
+use Rattle.std.proofs.lemmas.List.Elements.{All-nil, All-cons, All-head, All-tail, All-push, All-contains, All-contains_itself}
 use Rattle.subject.specs.Alike.{Equal, HasAtMost, IsListed, LeadAlike, LeadDifferently}
 use Rattle.subject.specs.Meaning.{Meaning, answer, answer_from, state_after, after}
 use Rattle.subject.specs.Method.{AgreeOn, IsTested}
 use Rattle.subject.specs.Domain.{Inside, box}
 use Rattle.subject.specs.Partition.{Partition, Covers, witnesses}
 use Rattle.subject.specs.VectorSet.{VectorSet, Members, IsIn, Word, IsWordOf}
-use Rattle.subject.proofs.Growing.{IsProduct, IsSeen, IsClosed, contains_at, product_word, seen_start, grow, few_seen}
+use Rattle.subject.proofs.Growing.{IsSeen, IsClosed, contains_at, product_word, seen_start, grow, few_seen}
 use Rattle.subject.proofs.Lifting.{stable, equal_from}
 use Rattle.subject.proofs.Witnesses.{words-within}
 use Rattle.subject.proofs.Words.{after-state, answer-after, length-answer_from, alike-goes_on, state_after-push}

@@ -1,6 +1,6 @@
 -- A plan with one vector and one state that replies nothing: one press is a complete test of it at the bound 1, and no
 -- test at all is not.
-use Rattle.std.proofs.Common.{◌≡◌, ℕ, ◌<◌, ◌≤◌, ℤ, pos, Bool, true, false, ◌&&◌, cond, List, [], ◌∷◌, ◌++◌, length, get_or, Option, None, Some, refl, sym, ap, subst, ◌∙◌, arith}
+use Rattle.std.proofs.Common.{◌≡◌, ℕ, ℤ, pos, Bool, true, false, ◌&&◌, cond, List, [], ◌∷◌, ◌++◌, get_or, None, Some, refl, sym, ap, subst, ◌∙◌, arith}
 use Rattle.std.specs.Prelude.{slice_get}
 use Rattle.std.specs.Option.{option_map_or}
 use Rattle.std.proofs.lemmas.Int.{ints}
@@ -10,12 +10,12 @@ use Rattle.lin_form.specs.declared.signature.Signature.{Signature}
 use Rattle.lin_form.specs.Range.{IsInRanges}
 use Rattle.lin_form.specs.Signature.{ranges_of}
 use Rattle.subject.specs.declared.case.Case.{Case}
-use Rattle.subject.specs.Alike.{Equal, HasAtMost, ActsLike}
+use Rattle.subject.specs.Alike.{HasAtMost, ActsLike}
 use Rattle.subject.specs.Domain.{Complete, Inside, box}
-use Rattle.subject.specs.FiniteMap.{FiniteMap, next_of, plan_of_map}
+use Rattle.subject.specs.FiniteMap.{FiniteMap, plan_of_map}
 use Rattle.subject.specs.Lamp.{entry, pressed, one_class, one_press}
 use Rattle.subject.specs.Meaning.{Meaning, answer_from, answer, state_after, after}
-use Rattle.subject.specs.Tests.{AnswersTest, Passes, TestCase}
+use Rattle.subject.specs.Tests.{AnswersTest}
 use Rattle.subject.specs.VectorSet.{VectorSet, IsIn, Word, IsWordOf}
 use Rattle.subject.proofs.Lifting.{from_mere}
 use Rattle.subject.proofs.Words.{after-state, state_after-push}

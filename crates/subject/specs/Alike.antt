@@ -1,4 +1,5 @@
--- Where plans, words and vectors cannot be told apart by answers to the words of a set of vectors.
+-- Where plans, words and vectors cannot be told apart by answers to the words of a set of vectors. `∥ A ∥₁` says that
+-- there is an A, and not which.
 use Rattle.std.specs.Prelude.{◌≡◌, ℕ, ◌≤◌, ℤ, List, ◌∷◌, ◌++◌, length, Some, slice_get}
 use Rattle.std.specs.List.{All, AllPairs}
 use Rattle.subject.specs.Meaning.{Meaning, answer, after}

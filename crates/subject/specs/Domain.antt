@@ -1,4 +1,4 @@
--- The fault domain, and what it means that tests are complete for it.
+-- The fault domain, and what it means that tests are complete for it. `∥ A ∥₁` says that there is an A, and not which.
 use Rattle.std.specs.Prelude.{◌≡◌, ◌↔◌, ℕ, ℤ, List, map, Contains}
 use Rattle.lin_form.specs.declared.signature.Signature.{Signature}
 use Rattle.lin_form.specs.Signature.{ranges_of}

@@ -36,6 +36,6 @@ pub record LeadsTo {S : Type 0} (m : Meaning S) (s : S) : Type 0 where
   pub in_ranges : All (IsInInputRanges m.signature.inputs) word
   pub leads : state_after m m.start word ≡ s
 
--- the state is reached from the start: there is such a word
+-- the state is reached from the start: there is such a word (`∥ A ∥₁` says that there is an A, and not which)
 abbrev pub IsReached : {S : Type 0} → Meaning S → S → Type 0
 IsReached m s = ∥ LeadsTo m s ∥₁

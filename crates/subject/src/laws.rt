@@ -8,7 +8,7 @@ ghost use Rattle.subject.specs.Domain.{ActByClasses, Inside, box};
 ghost use Rattle.subject.specs.Meaning.{IsReached, after, answer, answer_from, state_after};
 ghost use Rattle.subject.specs.Method.{IsTested};
 ghost use Rattle.subject.specs.Partition.{ActAlike, Covers, Partition, in_witnesses, witnesses};
-ghost use Rattle.subject.specs.Tests.{Failure, IsFirstFailure, Passes, TestCase};
+ghost use Rattle.subject.specs.Tests.{Failure, IsFirstFailure, IsTest, Passes, TestCase};
 ghost use Rattle.subject.specs.VectorSet.{IsIn, IsWordOf, Members, VectorSet, Word, box_of};
 
 use crate::Plan;
@@ -140,7 +140,7 @@ pub fn tested_plan_inside_is_equal<P: Plan, Q: Plan>(model: &P, other: &Q)
 /// A plan passes all tests or has one first failure, and not both.
 pub fn verdict_is_one<P: Plan>(plan: &P)
     ensures either { let m = P.plan plan.now in
-        (tests : List TestCase) → All (λ test. length test.replies ≡ length test.word) tests
+        (s : VectorSet) (tests : List TestCase) → All (IsTest s) tests
         → Passes m tests ⊎ ((failure : Failure) × IsFirstFailure m tests failure) }
     ensures not_both { let m = P.plan plan.now in
         (tests : List TestCase) (failure : Failure) → IsFirstFailure m tests failure → Passes m tests → ⊥ }
