@@ -5,4 +5,4 @@ pub use Rattle.subject.proofs.Witnesses.{IsWitnessed, witnessed, witness-within,
 pub use Rattle.subject.proofs.Lifting.{stable, from_mere, by_classes, equal_from, lead_alike_from}
 pub use Rattle.subject.proofs.Ranks.{alike-in_witnesses, few_apart, rank_within, more_states, most_over_witnesses, most_from_witnesses, rank_from_witnesses}
 pub use Rattle.subject.proofs.Failures.{passes_or_fails, excludes, one_failure}
-pub use Rattle.subject.proofs.Method.{IsProbed, equal_by_own, equal_by_tests, equal_inside}
+pub use Rattle.subject.proofs.Method.{IsProbed, equal_by_own, equal_by_tests, equal_inside, tests_complete}

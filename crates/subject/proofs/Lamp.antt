@@ -135,11 +135,13 @@ module _ (sg : Signature) (ranged : ranges_of sg.inputs ≡ (pos 0, pos 2) ∷ [
   pub lamp_is_tested : (d : ℕ) → IsTested s m m ways ((pressed 1 ∷ []) ∷ []) d
   unfolding two_at_most
   lamp_is_tested d = record {
-    begins = (0, omega arith, refl);
-    cover_words = are_words;
-    mark_words = All-cons (IsWordOf s) (pressed 1 ∷ []) [] (word_of 1 (omega arith)) (All-nil (IsWordOf s));
-    some_mark = omega arith;
-    whole = λ w h never. ∥∥₁_elim (two_at_most.each w h) (λ p q. absurd p) never;
-    apart = marks_apart;
+    model = record {
+      begins = (0, omega arith, refl);
+      cover_words = are_words;
+      mark_words = All-cons (IsWordOf s) (pressed 1 ∷ []) [] (word_of 1 (omega arith)) (All-nil (IsWordOf s));
+      some_mark = omega arith;
+      whole = λ w h never. ∥∥₁_elim (two_at_most.each w h) (λ p q. absurd p) never;
+      apart = marks_apart;
+    };
     answers = λ p z w a b c e. refl;
   }

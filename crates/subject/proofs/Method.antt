@@ -8,8 +8,10 @@ use Rattle.std.proofs.lemmas.List.{append_assoc, length-append, get_or_default}
 use Rattle.std.proofs.lemmas.List.Elements.{All-nil, All-cons, All-head, All-tail, All-push, All-contains, All-contains_itself}
 use Rattle.subject.specs.Alike.{Equal, HasAtMost, IsListed, LeadAlike, LeadDifferently}
 use Rattle.subject.specs.Meaning.{Meaning, answer, answer_from, state_after, after}
-use Rattle.subject.specs.Method.{AgreeOn, IsTested}
-use Rattle.subject.specs.Domain.{Inside, box}
+use Rattle.subject.specs.Method.{AgreeOn, AreCoverAndMarks, HaveProducts, IsAnswered, IsFront, IsTested}
+use Rattle.subject.specs.Domain.{Complete, Inside, box}
+use Rattle.subject.specs.FiniteMap.{plan_of_map}
+use Rattle.subject.specs.Tests.{AnswersTest, Passes, TestCase}
 use Rattle.subject.specs.Partition.{Partition, Covers, witnesses}
 use Rattle.subject.specs.VectorSet.{VectorSet, Members, IsIn, Word, IsWordOf}
 use Rattle.subject.proofs.Growing.{IsSeen, IsClosed, contains_at, product_word, seen_start, grow, few_seen}
@@ -160,21 +162,21 @@ module _ {S T : Type 0} (s : VectorSet) (m : Meaning S) (i : Meaning T) (cover m
   agree_is_one : (p q : Word) → Contains cover p → Contains cover q → AgreeOn m marks p q → p ≡ q
   agree_is_one p q first second agree =
       elim (cases_lt first.0 second.0) [
-        | inl less ↦ absurd (h.apart first.0 second.0 [] less second.1 (λ k e b. ap (λ u. after m u (get_or marks k e)) (at_place p first) ∙ agree k e b ∙ sym (ap (λ u. after m u (get_or marks k e)) (at_place q second))))
+        | inl less ↦ absurd (h.model.apart first.0 second.0 [] less second.1 (λ k e b. ap (λ u. after m u (get_or marks k e)) (at_place p first) ∙ agree k e b ∙ sym (ap (λ u. after m u (get_or marks k e)) (at_place q second))))
         | inr more ↦ elim (cases_lt second.0 first.0) [
-          | inl less ↦ absurd (h.apart second.0 first.0 [] less first.1 (λ k e b. ap (λ u. after m u (get_or marks k e)) (at_place q second) ∙ sym (agree k e b) ∙ sym (ap (λ u. after m u (get_or marks k e)) (at_place p first))))
+          | inl less ↦ absurd (h.model.apart second.0 first.0 [] less first.1 (λ k e b. ap (λ u. after m u (get_or marks k e)) (at_place q second) ∙ sym (agree k e b) ∙ sym (ap (λ u. after m u (get_or marks k e)) (at_place p first))))
           | inr less ↦ (let same : first.0 ≡ second.0 = omega arith in sym (at_place p first) ∙ ap (λ k. get_or cover k []) same ∙ at_place q second)
         ]
       ]
 
   probed : IsProbed s m i cover marks (λ q. marks) d
   probed = record {
-    begins = h.begins;
-    cover_words = h.cover_words;
-    mark_words = h.mark_words;
-    whole = h.whole;
-    apart = h.apart;
-    own_mark = λ q k. h.some_mark;
+    begins = h.model.begins;
+    cover_words = h.model.cover_words;
+    mark_words = h.model.mark_words;
+    whole = h.model.whole;
+    apart = h.model.apart;
+    own_mark = λ q k. h.model.some_mark;
     own_marks = λ q w k mark. mark;
     own_apart = agree_is_one;
     answers = λ p z w k word short mark. h.answers p z w k word (omega arith) mark;
@@ -191,3 +193,21 @@ equal_inside m r n i cover marks covers few inside tested w h =
     let most = subst (HasAtMost (box m r) i) size inside.states in
     let equal = equal_by_tests (Members (witnesses r)) m i cover marks (n - length cover) tested (box m r) (words-within (box m r) r covers) most in
     equal_from (box m r) r m i covers inside.classes equal [] w (All-nil (Contains (witnesses r))) h
+
+-- a plan that passes answers each product as the model does
+passed_products : {S T : Type 0} (s large : VectorSet) (m : Meaning S) (i : Meaning T) (cover marks : List Word) (d : ℕ) (tests : List TestCase) → HaveProducts s cover marks d tests → All (IsAnswered large m) tests → Passes i tests
+    → (p z w : Word) → Contains cover p → IsWordOf s z → length z ≤ d + 1 → Contains marks w → answer i (p ++ (z ++ w)) ≡ answer m (p ++ (z ++ w))
+passed_products s large m i cover marks d tests products answered passes p z w cover_word word short mark =
+    let u = p ++ (z ++ w) in
+    stable (answer i u) (answer m u) (λ differ. products p z w cover_word word short mark (λ f.
+    let expected = (All-contains (IsAnswered large m) tests f.test answered f.there).expected in
+    let same = All-contains (AnswersTest i) tests f.test passes f.there ∙ expected in
+    differ (sym (answer-front i u f.rest) ∙ ap (take (length u)) (sym (ap (answer i) f.is) ∙ same ∙ ap (answer m) f.is) ∙ answer-front m u f.rest)))
+
+-- tests that have the products of a cover and marks over the witnesses are complete
+pub tests_complete : {S : Type 0} (m : Meaning S) (r : Partition) (n : ℕ) (cover marks : List Word) (tests : List TestCase) → Covers (box m r) r → length cover ≤ n → AreCoverAndMarks (Members (witnesses r)) m cover marks → HaveProducts (Members (witnesses r)) cover marks (n - length cover) tests → All (IsAnswered (box m r) m) tests → Complete m r n tests
+tests_complete m r n cover marks tests covers few model products answered f inside =
+    let i = plan_of_map f in (
+      λ passes. equal_inside m r n i cover marks covers few inside (record { model = model; answers = passed_products (Members (witnesses r)) (box m r) m i cover marks (n - length cover) tests products answered passes }),
+      λ equal k e below. let t = answered k e below in equal (get_or tests k e).word t.is_word ∙ sym t.expected,
+    )

@@ -4,9 +4,9 @@ ghost use Rattle.std.specs.List.{All, AllPairs};
 ghost use Rattle.lin_form.specs.declared.literal.Literal.{Literal};
 ghost use Rattle.lin_form.specs.Signature.{IsInInputRanges};
 ghost use Rattle.subject.specs.Alike.{ActsLike, Equal, HasAtMost, HasRank, LeadAlike, LeadDifferently};
-ghost use Rattle.subject.specs.Domain.{ActByClasses, Inside, box};
+ghost use Rattle.subject.specs.Domain.{ActByClasses, Complete, Inside, box};
 ghost use Rattle.subject.specs.Meaning.{IsReached, after, answer, answer_from, state_after};
-ghost use Rattle.subject.specs.Method.{IsTested};
+ghost use Rattle.subject.specs.Method.{AreCoverAndMarks, HaveProducts, IsAnswered, IsTested};
 ghost use Rattle.subject.specs.Partition.{ActAlike, Covers, Partition, in_witnesses, witnesses};
 ghost use Rattle.subject.specs.Tests.{Failure, IsFirstFailure, IsTest, Passes, TestCase};
 ghost use Rattle.subject.specs.VectorSet.{IsIn, IsWordOf, Members, VectorSet, Word, box_of};
@@ -135,6 +135,16 @@ pub fn tested_plan_inside_is_equal<P: Plan, Q: Plan>(model: &P, other: &Q)
     ensures { let m = P.plan model.now in let i = Q.plan other.now in
         (r : Partition) (n : ℕ) (cover marks : List Word) → Covers (box m r) r → length cover ≤ n → Inside m r n i
         → IsTested (Members (witnesses r)) m i cover marks (n - length cover) → Equal (box m r) i m }
+{}
+
+/// Tests that have the products of a state cover, words of at most one vector more than the bound leaves, and a
+/// characterisation set, over the witnesses, with the model's replies, are complete.
+pub fn tests_are_complete<P: Plan>(model: &P)
+    ensures { let m = P.plan model.now in
+        (r : Partition) (n : ℕ) (cover marks : List Word) (tests : List TestCase) → Covers (box m r) r → length cover ≤ n
+        → AreCoverAndMarks (Members (witnesses r)) m cover marks
+        → HaveProducts (Members (witnesses r)) cover marks (n - length cover) tests
+        → All (IsAnswered (box m r) m) tests → Complete m r n tests }
 {}
 
 /// A plan passes all tests or has one first failure, and not both.

@@ -17,7 +17,8 @@ pub use cases::Cases;
 pub use laws::{
     box_lies_in_ranges, equality, leading_alike, lift, model_is_inside, rank_is_least,
     replies_after, same_steps_act_alike, stability, states_over_witnesses,
-    tested_plan_inside_is_equal, tested_plan_is_equal, verdict_is_one, witnesses_stand_in,
+    tested_plan_inside_is_equal, tested_plan_is_equal, tests_are_complete, verdict_is_one,
+    witnesses_stand_in,
 };
 pub use plan::Plan;
 pub use replies::answers;
