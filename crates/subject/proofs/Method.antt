@@ -8,7 +8,7 @@ use Rattle.std.proofs.lemmas.List.{append_assoc, length-append, get_or_default}
 use Rattle.std.proofs.lemmas.List.Elements.{All-nil, All-cons, All-head, All-tail, All-push, All-contains, All-contains_itself}
 use Rattle.subject.specs.Alike.{Equal, HasAtMost, IsListed, LeadAlike, LeadDifferently}
 use Rattle.subject.specs.Meaning.{Meaning, answer, answer_from, state_after, after}
-use Rattle.subject.specs.Method.{AgreeOn, AreCoverAndMarks, HaveProducts, IsAnswered, IsFront, IsTested}
+use Rattle.subject.specs.Method.{AgreeOn, AreCoverAndMarks, HaveProducts, IsAnswered, IsTested}
 use Rattle.subject.specs.Domain.{Complete, Inside, box}
 use Rattle.subject.specs.FiniteMap.{plan_of_map}
 use Rattle.subject.specs.Tests.{AnswersTest, Passes, TestCase}

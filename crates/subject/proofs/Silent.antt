@@ -1,24 +1,24 @@
 -- A plan with one vector and one state that replies nothing: one press is a complete test of it at the bound 1, and no
 -- test at all is not.
-use Rattle.std.proofs.Common.{◌≡◌, ℕ, ℤ, pos, Bool, true, false, ◌&&◌, cond, List, [], ◌∷◌, ◌++◌, get_or, None, Some, refl, sym, ap, subst, ◌∙◌, arith}
-use Rattle.std.specs.Prelude.{slice_get}
+use Rattle.std.proofs.Common.{zero, suc, length, All, ◌≤◌, Contains, ◌≡◌, ℕ, ℤ, pos, Bool, true, false, ◌&&◌, cond, List, [], ◌∷◌, ◌++◌, None, Some, refl, sym, ap, subst, ◌∙◌, arith}
 use Rattle.std.specs.Option.{option_map_or}
 use Rattle.std.proofs.lemmas.Int.{ints}
-use Rattle.std.proofs.lemmas.List.Elements.{All-nil, All-cons, All-head, All-tail, All-push}
-use Rattle.std.proofs.lemmas.Option.{same_Some, slice_get_within}
+use Rattle.std.proofs.lemmas.List.Elements.{All-nil, All-cons, All-head}
 use Rattle.lin_form.specs.declared.signature.Signature.{Signature}
 use Rattle.lin_form.specs.Range.{IsInRanges}
 use Rattle.lin_form.specs.Signature.{ranges_of}
 use Rattle.subject.specs.declared.case.Case.{Case}
-use Rattle.subject.specs.Alike.{HasAtMost, ActsLike}
+use Rattle.subject.specs.Alike.{ActsLike}
 use Rattle.subject.specs.Domain.{Complete, Inside, box}
 use Rattle.subject.specs.FiniteMap.{FiniteMap, plan_of_map}
 use Rattle.subject.specs.Lamp.{entry, pressed, one_class, one_press}
-use Rattle.subject.specs.Meaning.{Meaning, answer_from, answer, state_after, after}
+use Rattle.subject.specs.Method.{AreCoverAndMarks, HaveProducts, IsAnswered, IsFront}
+use Rattle.subject.specs.Partition.{Class, Covers, IsInClass, witnesses}
+use Rattle.subject.specs.Meaning.{Meaning, answer_from, answer, state_after}
 use Rattle.subject.specs.Tests.{AnswersTest}
-use Rattle.subject.specs.VectorSet.{VectorSet, IsIn, Word, IsWordOf}
-use Rattle.subject.proofs.Lifting.{from_mere}
-use Rattle.subject.proofs.Words.{after-state, state_after-push}
+use Rattle.subject.specs.VectorSet.{VectorSet, Members, IsIn, Word, IsWordOf}
+use Rattle.subject.proofs.Method.{tests_complete}
+use Rattle.subject.proofs.Words.{after-state}
 
 only : (x : List ℤ) → IsInRanges ((pos 0, pos 0) ∷ []) x → x ≡ pressed 0
 only [] h = absurd h
@@ -31,6 +31,21 @@ stays false = refl
 
 loud_differs : ((pos 5 ∷ []) ∷ []) ≡ ([] ∷ []) → ⊥
 loud_differs e = cc
+
+only_one : {X : Type 0} (x y : X) → Contains (x ∷ []) y → x ≡ y
+only_one x y (zero, b, e) = e
+only_one x y (suc k, b, e) = let no : ⊥ = omega arith in absurd no
+
+-- a word of at most one press is the front of the test
+front : (z : Word) → IsWordOf (Members (witnesses one_class)) z → length z ≤ 1 → IsFront one_press (z ++ [])
+front [] word short = record { test = record { word = pressed 0 ∷ []; replies = [] ∷ [] }; rest = pressed 0 ∷ []; there = (0, omega arith, refl); is = refl }
+front (x ∷ []) word short = record {
+  test = record { word = pressed 0 ∷ []; replies = [] ∷ [] };
+  rest = [];
+  there = (0, omega arith, refl);
+  is = ap (λ y. y ∷ []) (only_one (pressed 0) x (All-head (Contains (witnesses one_class)) x [] word));
+}
+front (x ∷ y ∷ z) word short = let no : ⊥ = omega arith in absurd no
 
 module _ (sg : Signature) (ranged : ranges_of sg.inputs ≡ (pos 0, pos 0) ∷ []) where
   abbrev m : Meaning ℕ
@@ -48,32 +63,45 @@ module _ (sg : Signature) (ranged : ranges_of sg.inputs ≡ (pos 0, pos 0) ∷ [
   press_word : IsWordOf s (pressed 0 ∷ [])
   press_word = All-cons (IsIn s) (pressed 0) [] press (All-nil (IsIn s))
 
-  module _ {T : Type 0} (i : Meaning T) (few : HasAtMost s i 1) (first : answer i (pressed 0 ∷ []) ≡ [] ∷ []) where
-    all_alike : (w v : Word) → IsWordOf s w → IsWordOf s v → after i w v ≡ after i [] v
-    all_alike w v h k =
-        from_mere (after i w v) (after i [] v) (few.each w h) (λ a. from_mere (after i w v) (after i [] v) (few.each [] (All-nil (IsIn s))) (λ b.
-        let p = slice_get_within few.words a.place a.like a.there in
-        let q = slice_get_within few.words b.place b.like b.there in
-        let n = few.few in
-        let place : a.place ≡ b.place = omega arith in
-        let like = same_Some a.like b.like (sym a.there ∙ ap (slice_get few.words) place ∙ b.there) in
-        a.alike v k ∙ ap (λ u. after i u v) like ∙ sym (b.alike v k)))
+  silent_stays : (t : ℕ) (w : Word) → state_after m t w ≡ t
+  silent_stays t [] = refl
+  silent_stays t (x ∷ w) = silent_stays t w
 
-    follows : (u w : Word) → IsWordOf s u → IsWordOf s w → answer_from i (state_after i i.start u) w ≡ answer_from m 0 w
-    follows u [] h k = refl
-    follows u (x ∷ w) h k =
-        let here = All-head (IsIn s) x w k in
-        let at = sym (after-state i u (x ∷ [])) ∙ all_alike u (x ∷ []) h (All-cons (IsIn s) x [] here (All-nil (IsIn s))) ∙ ap (λ y. answer i (y ∷ [])) (only_in x here) ∙ first in
-        let reply = ap (λ (l : List (List ℤ)). get_or l 0 []) at in
-        let later = ap (λ t. answer_from i t w) (sym (state_after-push i u x)) ∙ follows (u ++ x ∷ []) w (All-push (IsIn s) u x h here) (All-tail (IsIn s) x w k) in
-        λ j. reply j ∷ later j
+  covers : Covers s one_class
+  covers = record {
+    classes = λ x h. refl;
+    witnessed = All-cons (λ (c : Class). IsInClass s one_class c c.witness) (record { pattern = []; witness = pressed 0 }) [] (press, refl) (All-nil (λ (c : Class). IsInClass s one_class c c.witness));
+  }
+
+  only_empty : All (IsWordOf (Members (witnesses one_class))) ([] ∷ [])
+  only_empty = All-cons (IsWordOf (Members (witnesses one_class))) [] [] (All-nil (Contains (witnesses one_class))) (All-nil (IsWordOf (Members (witnesses one_class))))
+
+  -- the empty word is a state cover, and a characterisation set
+  cover_and_marks : AreCoverAndMarks (Members (witnesses one_class)) m ([] ∷ []) ([] ∷ [])
+  cover_and_marks = record {
+    begins = (0, omega arith, refl);
+    cover_words = only_empty;
+    mark_words = only_empty;
+    some_mark = omega arith;
+    whole = λ w h never. never (record {
+      place = 0;
+      like = [];
+      there = refl;
+      alike = λ v k. after-state m w v ∙ ap (λ t. answer_from m t v) (silent_stays 0 w) ∙ sym (after-state m [] v);
+    });
+    apart = λ a b d less below agree. let no : ⊥ = omega arith in no;
+  }
+
+  products : HaveProducts (Members (witnesses one_class)) ([] ∷ []) ([] ∷ []) 0 one_press
+  products p z w first word short mark never =
+      never (subst (λ a. IsFront one_press (a ++ (z ++ w))) (only_one [] p first) (subst (λ b. IsFront one_press (z ++ b)) (only_one [] w mark) (front z word short)))
+
+  answered : All (IsAnswered s m) one_press
+  answered = All-cons (IsAnswered s m) (record { word = pressed 0 ∷ []; replies = [] ∷ [] }) [] (record { is_word = press_word; expected = refl }) (All-nil (IsAnswered s m))
 
   -- one press is enough
   pub enough : Complete m one_class 1 one_press
-  enough f inside = (
-    λ passes w h. follows (plan_of_map f) inside.states (All-head (AnswersTest (plan_of_map f)) (record { word = pressed 0 ∷ []; replies = [] ∷ [] }) [] passes) [] w (All-nil (IsIn s)) h,
-    λ equal. All-cons (AnswersTest (plan_of_map f)) (record { word = pressed 0 ∷ []; replies = [] ∷ [] }) [] (equal (pressed 0 ∷ []) press_word) (All-nil (AnswersTest (plan_of_map f))),
-  )
+  enough = tests_complete m one_class 1 ([] ∷ []) ([] ∷ []) one_press covers (omega arith) cover_and_marks products answered
 
   abbrev loud : FiniteMap
   loud = record { signature = sg; entries = entry 0 0 0 5 ∷ [] }
