@@ -107,7 +107,7 @@ pub record IsExiting (chart : Chart) (way : List ℕ) (start : Configuration) (i
   pub last : AreLastChildren chart c
   pub up : IsUpFrom chart.states (next_up chart.states start.leaf child) (drop i way)
 
-active_in : (chart : Chart) (leaf s : ℕ) (child : Option ℕ) → is_remembering chart.transitions leaf ≡ false → next_up chart.states leaf child ≡ Some s → IsActiveIn chart s child
+pub active_in : (chart : Chart) (leaf s : ℕ) (child : Option ℕ) → is_remembering chart.transitions leaf ≡ false → next_up chart.states leaf child ≡ Some s → IsActiveIn chart s child
 active_in chart leaf s None none e = subst (λ x. is_remembering chart.transitions x ≡ false) (same_Some leaf s e) none
 active_in chart leaf s (Some child) none e = e
 

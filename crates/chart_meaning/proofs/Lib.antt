@@ -6,5 +6,7 @@ pub mod Leaving
 pub mod Enabling
 pub mod Taking
 pub mod Starting
+pub mod Keeping
+pub mod Reaching
 pub mod Listing
 pub mod SmallCharts

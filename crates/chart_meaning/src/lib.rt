@@ -18,4 +18,4 @@ mod tree;
 
 pub use config::Config;
 pub use laws::ways_are_whole;
-pub use plan::{ChartPlan, Step};
+pub use plan::ChartPlan;

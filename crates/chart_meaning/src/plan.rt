@@ -10,17 +10,10 @@ use crate::path::Path;
 use crate::rows::{Row, rows_of_leaves, ways_down};
 use crate::start::start;
 use chart_model::Chart;
-use lin_form::{Reply, Vector};
+use lin_form::{Reply, Signature, Vector};
 use std::alloc::{AllocError, Global};
 use std::marker::Model;
-
-/// What a step leads to: the state after it, and the reply.
-#[derive(Clone, Copy, Debug)]
-pub struct Step<S> {
-    pub state: S,
-    /// All output values after the step.
-    pub reply: Reply,
-}
+use subject::{Plan, Step};
 
 /// A chart, made ready for steps.
 #[derive(Drop)]
@@ -94,4 +87,27 @@ impl ChartPlan {
         let reply = Reply::from_slice(state.outputs());
         Step { state, reply }
     }
+}
+
+impl Plan for ChartPlan {
+    type State = Config;
+
+    ghost use Rattle.chart_meaning.specs.Plan.{plan_of_chart};
+    ghost use Rattle.chart_meaning.specs.Same.{same_configurations};
+
+    ghost plan = { plan_of_chart };
+
+    fn signature(&self) -> &Signature {
+        &self.chart.signature
+    }
+
+    fn begin(&self) -> Config {
+        self.start()
+    }
+
+    fn advance(&self, state: &Config, input: &Vector) -> Step<Config> {
+        self.step(state, input)
+    }
+
+    ghost same = { same_configurations };
 }

@@ -1,11 +1,16 @@
 //! Steps of small charts, with replies that were worked out by hand from the meaning of a chart.
+ghost use Rattle.std.specs.Prelude.{◌↔◌, IsTrue};
+ghost use Rattle.std.specs.List.{All};
+ghost use Rattle.lin_form.specs.Signature.{IsInInputRanges};
+
 use crate::ChartPlan;
 use crate::charts::{StateRow, Test, TransitionRow, chart};
 use chart_model::Place;
-use lin_form::{Relation, Reply, Vector};
+use lin_form::{Relation, Reply, Signature, Vector};
 use std::alloc::{AllocError, Global};
 use std::process::Abort;
 use std::test::Fail;
+use subject::{Plan, answers};
 
 /// The memory, which the comments call n.
 const N: Place = Place::Memory(0);
@@ -269,5 +274,42 @@ fn configurations_are_compared(rt: HostRuntime) -> Result<(), Fail> {
     let down = plan.step(&start, &high).state;
     assert_ne!(rt; up, down);
     assert_eq!(rt; plan.step(&up, &low).state, up);
+    Ok(())
+}
+
+/// Whether each vector is in the signature's ranges.
+fn are_in_ranges(signature: &Signature, word: &[Vector]) -> bool
+    ensures { IsTrue result ↔ All (IsInInputRanges signature.now.inputs) word.now }
+{
+    word.iter().all(|vector| signature.inputs.contains(vector))
+}
+
+/// Compares what a plan answers to a case's inputs with the replies that are expected.
+fn check_answers<P: Plan>(
+    rt: &impl Abort,
+    alloc: Global,
+    plan: &P,
+    case: &Case,
+) -> Result<(), AllocError> {
+    let mut word = Vec::new(alloc);
+    for (input, _) in case.steps {
+        word.push(Vector::from_slice(alloc, &[*input, 0]))?;
+    }
+    assert!(rt; are_in_ranges(plan.signature(), word.as_slice()));
+    let replies = answers(alloc, plan, word.as_slice())?;
+    assert_eq!(rt; replies.len(), case.steps.len());
+    for (reply, (_, want)) in replies.iter().zip(case.steps) {
+        assert_eq!(rt; *reply, Reply::from_slice(&[*want, 0]), "{}", case.name);
+    }
+    Ok(())
+}
+
+#[test]
+fn answers_of_a_chart(rt: HostRuntime) -> Result<(), Fail> {
+    let alloc = rt.alloc();
+    for case in &[COUNT, NESTED_HISTORY] {
+        let chart = chart(&rt, alloc, 0, case.range, case.states, case.transitions)?;
+        check_answers(&rt, alloc, &ChartPlan::new(alloc, chart)?, case)?;
+    }
     Ok(())
 }

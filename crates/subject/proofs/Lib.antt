@@ -1,0 +1,10 @@
+pub mod Words
+pub mod Witnesses
+pub mod Lifting
+pub mod Ranks
+pub mod Failures
+pub mod Growing
+pub mod Method
+pub mod Lamp
+pub mod Silent
+pub mod CallerLemmas

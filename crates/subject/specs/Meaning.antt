@@ -1,0 +1,41 @@
+-- What a plan means, and what it answers.
+use Rattle.std.specs.Prelude.{◌≡◌, ℤ, List, [], ◌∷◌, ◌++◌, length, drop}
+use Rattle.std.specs.List.{All}
+use Rattle.lin_form.specs.declared.signature.Signature.{Signature}
+use Rattle.lin_form.specs.Signature.{IsInInputRanges}
+use Rattle.subject.specs.VectorSet.{Word}
+
+-- a signature, a start, and for each state and vector of the signature's ranges a next state and a reply
+pub record Meaning (S : Type 0) : Type 0 where
+  pub signature : Signature
+  pub start : S
+  pub next : S → List ℤ → S
+  pub reply : S → List ℤ → List ℤ
+
+-- the state to which a word leads from a state
+abbrev pub state_after : {S : Type 0} → Meaning S → S → Word → S
+state_after m s [] = s
+state_after m s (x ∷ w) = state_after m (m.next s x) w
+
+-- the replies to a word from a state
+abbrev pub answer_from : {S : Type 0} → Meaning S → S → Word → List (List ℤ)
+answer_from m s [] = []
+answer_from m s (x ∷ w) = m.reply s x ∷ answer_from m (m.next s x) w
+
+-- the replies to a word from the start
+abbrev pub answer : {S : Type 0} → Meaning S → Word → List (List ℤ)
+answer m w = answer_from m m.start w
+
+-- the last replies to u and then v, as many as v has vectors: those after the replies to u
+abbrev pub after : {S : Type 0} → Meaning S → Word → Word → List (List ℤ)
+after m u v = drop (length u) (answer m (u ++ v))
+
+-- a word of vectors of the signature's ranges that leads from the start to the state
+pub record LeadsTo {S : Type 0} (m : Meaning S) (s : S) : Type 0 where
+  pub word : Word
+  pub in_ranges : All (IsInInputRanges m.signature.inputs) word
+  pub leads : state_after m m.start word ≡ s
+
+-- the state is reached from the start: there is such a word (`∥ A ∥₁` says that there is an A, and not which)
+abbrev pub IsReached : {S : Type 0} → Meaning S → S → Type 0
+IsReached m s = ∥ LeadsTo m s ∥₁

@@ -1,0 +1,159 @@
+//! What holds of every plan, of answers and of words. Each law is a function's contract; the function does nothing.
+ghost use Rattle.std.specs.Prelude.{◌≡◌, ◌⊎◌, ℕ, ℤ, ◌+◌, ◌-◌, ◌≤◌, ◌++◌, [], ◌∷◌, List, length};
+ghost use Rattle.std.specs.List.{All, AllPairs};
+ghost use Rattle.lin_form.specs.declared.literal.Literal.{Literal};
+ghost use Rattle.lin_form.specs.Signature.{IsInInputRanges};
+ghost use Rattle.subject.specs.Alike.{ActsLike, Equal, HasAtMost, HasRank, LeadAlike, LeadDifferently};
+ghost use Rattle.subject.specs.Domain.{ActByClasses, Complete, Inside, box};
+ghost use Rattle.subject.specs.Meaning.{IsReached, after, answer, answer_from, state_after};
+ghost use Rattle.subject.specs.Method.{AreCoverAndMarks, HaveProducts, IsAnswered, IsTested};
+ghost use Rattle.subject.specs.Partition.{ActAlike, Covers, Partition, in_witnesses, witnesses};
+ghost use Rattle.subject.specs.Tests.{Failure, IsFirstFailure, IsTest, Passes, TestCase};
+ghost use Rattle.subject.specs.VectorSet.{IsIn, IsWordOf, Members, VectorSet, Word, box_of};
+
+use crate::Plan;
+use lin_form::Signature;
+
+/// Every word of a box is a word of the ranges.
+pub fn box_lies_in_ranges(signature: &Signature)
+    ensures { (assumed : List Literal) (w : Word) → IsWordOf (box_of signature.now assumed) w
+        → All (IsInInputRanges signature.now.inputs) w }
+{}
+
+/// The replies to `u` and then `v` are those to `u` and then those after `u`, one for each vector of `v`: the replies
+/// from the state to which `u` leads.
+pub fn replies_after<P: Plan>(plan: &P)
+    ensures joined { let m = P.plan plan.now in (u v : Word) → answer m (u ++ v) ≡ answer m u ++ after m u v }
+    ensures one_each { let m = P.plan plan.now in (u v : Word) → length (after m u v) ≡ length v }
+    ensures state { let m = P.plan plan.now in (u v : Word) → after m u v ≡ answer_from m (state_after m m.start u) v }
+{}
+
+/// A plan is equal to itself, equality is symmetric, and it passes on.
+pub fn equality<P: Plan, Q: Plan, R: Plan>(first: &P, second: &Q, third: &R)
+    ensures itself { let a = P.plan first.now in (s : VectorSet) → Equal s a a }
+    ensures turned { let a = P.plan first.now in let b = Q.plan second.now in (s : VectorSet) → Equal s a b → Equal s b a }
+    ensures passed_on { let a = P.plan first.now in let b = Q.plan second.now in let c = R.plan third.now in
+        (s : VectorSet) → Equal s a b → Equal s b c → Equal s a c }
+{}
+
+/// A word leads alike with itself, leading alike is symmetric, it passes on, and it goes on with one more vector.
+pub fn leading_alike<P: Plan>(plan: &P)
+    ensures itself { let m = P.plan plan.now in (s : VectorSet) (u : Word) → LeadAlike s m u u }
+    ensures turned { let m = P.plan plan.now in (s : VectorSet) (u w : Word) → LeadAlike s m u w → LeadAlike s m w u }
+    ensures passed_on { let m = P.plan plan.now in
+        (s : VectorSet) (u v w : Word) → LeadAlike s m u v → LeadAlike s m v w → LeadAlike s m u w }
+    ensures goes_on { let m = P.plan plan.now in
+        (s : VectorSet) (u w : Word) (x : List ℤ) → IsIn s x → LeadAlike s m u w
+        → LeadAlike s m (u ++ x ∷ []) (w ++ x ∷ []) }
+{}
+
+/// Two vectors with the same next state and the same reply in every state that is reached act alike.
+pub fn same_steps_act_alike<P: Plan>(plan: &P)
+    ensures { let m = P.plan plan.now in
+        (s : VectorSet) (x y : List ℤ) → ((z : List ℤ) → IsIn s z → IsInInputRanges m.signature.inputs z)
+        → ((t : P.State) → IsReached m t → (m.next t x ≡ m.next t y) × (m.reply t x ≡ m.reply t y)) → ActsLike s m x y }
+{}
+
+/// Words that cannot lead differently lead alike, and plans that cannot but be equal are equal.
+pub fn stability<P: Plan, Q: Plan>(plan: &P, other: &Q)
+    ensures alike { let m = P.plan plan.now in
+        (s : VectorSet) (u w : Word) → (LeadDifferently s m u w → ⊥) → LeadAlike s m u w }
+    ensures equal { let a = P.plan plan.now in let b = Q.plan other.now in
+        (s : VectorSet) → ((Equal s a b → ⊥) → ⊥) → Equal s a b }
+{}
+
+/// A plan has one rank, which is the least number of states that it has at most. Over fewer vectors the rank is no
+/// greater, and no more words lead pairwise differently.
+pub fn rank_is_least<P: Plan>(plan: &P)
+    ensures least { let m = P.plan plan.now in (s : VectorSet) (k n : ℕ) → HasRank s m k → HasAtMost s m n → k ≤ n }
+    ensures one { let m = P.plan plan.now in (s : VectorSet) (k n : ℕ) → HasRank s m k → HasRank s m n → k ≡ n }
+    ensures more { let m = P.plan plan.now in (s : VectorSet) (n k : ℕ) → HasAtMost s m n → n ≤ k → HasAtMost s m k }
+    ensures within { let m = P.plan plan.now in
+        (s t : VectorSet) (k n : ℕ) → ((x : List ℤ) → IsIn t x → IsIn s x) → HasRank t m k → HasAtMost s m n → k ≤ n }
+    ensures apart { let m = P.plan plan.now in
+        (s t : VectorSet) (words : List Word) (n : ℕ) → ((x : List ℤ) → IsIn t x → IsIn s x) → All (IsWordOf t) words
+        → AllPairs (LeadDifferently t m) words → HasAtMost s m n → length words ≤ n }
+{}
+
+/// Where members of a class act alike, a word and its word of witnesses have equal answers.
+pub fn witnesses_stand_in<P: Plan>(plan: &P)
+    ensures answers { let m = P.plan plan.now in
+        (s : VectorSet) (r : Partition) → Covers s r → ActAlike s r m
+        → (w : Word) → IsWordOf s w → answer m w ≡ answer m (in_witnesses r w) }
+    ensures members { (s : VectorSet) (r : Partition) → Covers s r
+        → (w : Word) → IsWordOf s w → IsWordOf (Members (witnesses r)) (in_witnesses r w) }
+    ensures within { (s : VectorSet) (r : Partition) → Covers s r
+        → (w : Word) → IsWordOf (Members (witnesses r)) w → IsWordOf s w }
+{}
+
+/// Where members of a class act alike, words of witnesses need as many states as all words, and the rank over them is
+/// the rank.
+pub fn states_over_witnesses<P: Plan>(plan: &P)
+    ensures over { let m = P.plan plan.now in
+        (s : VectorSet) (r : Partition) (n : ℕ) → Covers s r → ActAlike s r m
+        → HasAtMost s m n → HasAtMost (Members (witnesses r)) m n }
+    ensures from { let m = P.plan plan.now in
+        (s : VectorSet) (r : Partition) (n : ℕ) → Covers s r → ActAlike s r m
+        → HasAtMost (Members (witnesses r)) m n → HasAtMost s m n }
+    ensures rank_over { let m = P.plan plan.now in
+        (s : VectorSet) (r : Partition) (n : ℕ) → Covers s r → ActAlike s r m
+        → HasRank s m n → HasRank (Members (witnesses r)) m n }
+    ensures rank_from { let m = P.plan plan.now in
+        (s : VectorSet) (r : Partition) (n : ℕ) → Covers s r → ActAlike s r m
+        → HasRank (Members (witnesses r)) m n → HasRank s m n }
+{}
+
+/// Where every vector has a class that acts like it in both plans: plans that answer words of witnesses alike are equal,
+/// and words that lead alike over words of witnesses lead alike.
+pub fn lift<P: Plan, Q: Plan>(model: &P, other: &Q)
+    ensures equal { let m = P.plan model.now in let i = Q.plan other.now in
+        (s : VectorSet) (r : Partition) → Covers s r → ActByClasses s r m i
+        → Equal (Members (witnesses r)) i m → Equal s i m }
+    ensures alike { let m = P.plan model.now in let i = Q.plan other.now in
+        (s : VectorSet) (r : Partition) → Covers s r → ActByClasses s r m i
+        → (u w : Word) → IsWordOf s u → IsWordOf s w → LeadAlike (Members (witnesses r)) i u w → LeadAlike s i u w }
+{}
+
+/// A model in which members of a class act alike lies inside its own fault domain at every bound from its number of
+/// states on.
+pub fn model_is_inside<P: Plan>(model: &P)
+    ensures { let m = P.plan model.now in
+        (r : Partition) (n : ℕ) → Covers (box m r) r → ActAlike (box m r) r m → HasAtMost (box m r) m n → Inside m r n m }
+{}
+
+/// The theorem of the W-method (Chow 1978): a plan with at most `d` states more than the cover has words, counted over
+/// words of these or more vectors, that is tested with tails of at most `d + 1` vectors is equal to the model.
+pub fn tested_plan_is_equal<P: Plan, Q: Plan>(model: &P, other: &Q)
+    ensures { let m = P.plan model.now in let i = Q.plan other.now in
+        (s t : VectorSet) (cover marks : List Word) (d : ℕ) → ((x : List ℤ) → IsIn t x → IsIn s x)
+        → IsTested t m i cover marks d → HasAtMost s i (length cover + d) → Equal t i m }
+{}
+
+/// The same on words of witnesses (Huang and Peleska): a plan inside the fault domain that is so tested is equal to the
+/// model on every word of the box.
+pub fn tested_plan_inside_is_equal<P: Plan, Q: Plan>(model: &P, other: &Q)
+    ensures { let m = P.plan model.now in let i = Q.plan other.now in
+        (r : Partition) (n : ℕ) (cover marks : List Word) → Covers (box m r) r → length cover ≤ n → Inside m r n i
+        → IsTested (Members (witnesses r)) m i cover marks (n - length cover) → Equal (box m r) i m }
+{}
+
+/// Tests that have the products of a state cover, words of at most one vector more than the bound leaves, and a
+/// characterisation set, over the witnesses, with the model's replies, are complete.
+pub fn tests_are_complete<P: Plan>(model: &P)
+    ensures { let m = P.plan model.now in
+        (r : Partition) (n : ℕ) (cover marks : List Word) (tests : List TestCase) → Covers (box m r) r → length cover ≤ n
+        → AreCoverAndMarks (Members (witnesses r)) m cover marks
+        → HaveProducts (Members (witnesses r)) cover marks (n - length cover) tests
+        → All (IsAnswered (box m r) m) tests → Complete m r n tests }
+{}
+
+/// A plan passes all tests or has one first failure, and not both.
+pub fn verdict_is_one<P: Plan>(plan: &P)
+    ensures either { let m = P.plan plan.now in
+        (s : VectorSet) (tests : List TestCase) → All (IsTest s) tests
+        → Passes m tests ⊎ ((failure : Failure) × IsFirstFailure m tests failure) }
+    ensures not_both { let m = P.plan plan.now in
+        (tests : List TestCase) (failure : Failure) → IsFirstFailure m tests failure → Passes m tests → ⊥ }
+    ensures one { let m = P.plan plan.now in
+        (tests : List TestCase) (f g : Failure) → IsFirstFailure m tests f → IsFirstFailure m tests g → f ≡ g }
+{}

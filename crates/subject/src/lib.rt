@@ -1,0 +1,25 @@
+//! Plans: what a deterministic input-output system answers to every word of input vectors, and what it means that two
+//! of them answer alike, that one has at most so many distinguishable states, that it lies inside a fault domain, and
+//! that tests are complete for that domain (Chow 1978; Huang and Peleska).
+#![tactic(auto)]
+
+mod case;
+mod cases;
+mod laws;
+mod plan;
+mod replies;
+mod step;
+#[cfg(test)]
+mod tests;
+
+pub use case::Case;
+pub use cases::Cases;
+pub use laws::{
+    box_lies_in_ranges, equality, leading_alike, lift, model_is_inside, rank_is_least,
+    replies_after, same_steps_act_alike, stability, states_over_witnesses,
+    tested_plan_inside_is_equal, tested_plan_is_equal, tests_are_complete, verdict_is_one,
+    witnesses_stand_in,
+};
+pub use plan::Plan;
+pub use replies::answers;
+pub use step::Step;
