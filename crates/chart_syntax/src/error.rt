@@ -20,9 +20,9 @@ pub enum Kind {
     Double,
     /// A name that was not declared.
     Unknown,
-    /// A name of another use.
+    /// A name of another use, or a state without children where one with children must stand.
     Misuse,
-    /// A range without a number, or a value outside its range.
+    /// A range without a number, a value outside its range, or an assumption that speaks of no input.
     Range,
     /// A second start.
     Start,

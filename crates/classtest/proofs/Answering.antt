@@ -79,7 +79,7 @@ word_failed words shown mid chart before between after NoCommand play reads keep
 word_failed words shown mid chart before between after (Fault n l k) play reads keeps later h = answers_word words shown mid chart (refuses (Fault n l k)) play reads keeps h
 word_failed words shown mid chart before between after (Limit n l w) play reads keeps later h = answers_word words shown mid chart (refuses (Limit n l w)) play reads keeps h
 word_failed words shown mid chart before between after (TooLong n) play reads keeps later h = answers_word words shown mid chart (refuses (TooLong n)) play reads keeps h
-word_failed words shown mid chart before between after (ReadFault n) play reads keeps later h = (inr h.0, rose_before before between after later h.1)
+word_failed words shown mid chart before between after (ReadFault n) play reads keeps later h = (inr (h.0, chart, reads), rose_before before between after later h.1)
 word_failed words shown mid chart before between after WriteFault play reads keeps later h = h
 word_failed words shown mid chart before between after NoMemory play reads keeps later h = tt
 

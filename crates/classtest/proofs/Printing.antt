@@ -13,11 +13,13 @@ use Rattle.chart_meaning.specs.IsConfiguration.{IsConfiguration}
 use Rattle.chart_meaning.specs.Step.{next_of, reply_of, start_of}
 use Rattle.chart_syntax.specs.Words.{IsInBox}
 use Rattle.classtest.specs.Numbers.{line_of}
-use Rattle.classtest.specs.Play.{replies_from, answer_of, play_text}
+use Rattle.subject.specs.Meaning.{answer_from}
+use Rattle.chart_meaning.specs.Plan.{plan_of_chart}
+use Rattle.classtest.specs.Play.{play_text}
 
 -- the text of what is left of a word
 abbrev pub text_from : Chart → Configuration → List (List ℤ) → List ℕ
-text_from chart c word = flat_map line_of (replies_from chart c word)
+text_from chart c word = flat_map line_of (answer_from (plan_of_chart chart) c word)
 
 -- the replies to the vectors before the i-th are put, and the configuration is that after them
 pub record IsPrinted (chart : Chart) (word : List (List ℤ)) (i : ℕ) (c : Configuration) (old now : Option (List ℕ)) : Type 0 where

@@ -51,7 +51,7 @@ served_failed sound call (ReadFault n) all cause status line no_fault =
     record {
       caused = inr d;
       exact = λ told x h. inr d;
-      complete = λ told x h shelf sink. absurd (shelf cause.1);
+      complete = λ told x h shelf sink. absurd (shelf cause.2);
       sound_shelf = λ s holds five. absurd (no_fault s holds);
       sound_complete = λ s holds told x h sink. absurd (no_fault s holds);
     }

@@ -50,13 +50,17 @@ HasTextCause answers number before after (ReadFault name) = (name ≡ number) ×
 HasTextCause answers number before after WriteFault = ⊥
 HasTextCause answers number before after NoMemory = Unit {0}
 
+-- the text that the word with this number names is wanted: the chart, or the word where the chart reads
+abbrev pub IsWanted : List (List ℕ) → Option Showing → ℕ → Type 0
+IsWanted words shown name = (name ≡ 1) ⊎ ((name ≡ 2) × (chart : Chart) × ReadsChart words shown chart)
+
 -- why no input is there
 abbrev pub HasInputCause : List (List ℕ) → Option Showing → ℕ → ℕ → Refusal → Type 0
 HasInputCause words shown before after NoCommand = ⊥
 HasInputCause words shown before after (Fault name line kind) = Answers words shown (refuses (Fault name line kind))
 HasInputCause words shown before after (Limit name line which) = Answers words shown (refuses (Limit name line which))
 HasInputCause words shown before after (TooLong name) = Answers words shown (refuses (TooLong name))
-HasInputCause words shown before after (ReadFault name) = ((name ≡ 1) ⊎ (name ≡ 2)) × Rose before after
+HasInputCause words shown before after (ReadFault name) = IsWanted words shown name × Rose before after
 HasInputCause words shown before after WriteFault = ⊥
 HasInputCause words shown before after NoMemory = Unit {0}
 

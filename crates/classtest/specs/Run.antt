@@ -10,6 +10,7 @@ use Rattle.classtest.specs.declared.refusal.Refusal.TheVariants.{NoCommand, Faul
 use Rattle.classtest.specs.Report.{status_of, err_line}
 use Rattle.classtest.specs.Put.{IsPut}
 use Rattle.classtest.specs.Answer.{Answer, refuses, prints, Answers, IsCommand, Names, HoldsNames}
+use Rattle.classtest.specs.Input.{IsWanted}
 
 -- a call up to its last line: its words, what the shelf told, and what `out` took and the counts of faults and puts, before and after
 pub record Run : Type 0 where
@@ -37,10 +38,10 @@ pub record Call : Type 0 where
 abbrev pub IsUntouched : Run → Type 0
 IsUntouched run = (run.out_after ≡ run.out) × (run.out_puts_after ≡ run.out_puts)
 
--- what must be so where a call departs from its answer, and what `out` is then
+-- what must be so where a call departs from its answer, and what `out` is then; a failed read is that of a text that is wanted
 abbrev pub HasDeparted : Run → Refusal → Type 0
 HasDeparted run NoMemory = IsCommand run.words × IsUntouched run
-HasDeparted run (ReadFault name) = Names run.words name × Rose run.shelf_faults run.shelf_faults_after × IsUntouched run
+HasDeparted run (ReadFault name) = Names run.words name × IsWanted run.words run.shown name × Rose run.shelf_faults run.shelf_faults_after × IsUntouched run
 HasDeparted run WriteFault = (status : ℕ) × (text : List ℕ) × Answers run.words run.shown (prints status text) × GrowsByPrefix run.out run.out_after text × Rose run.out_faults run.out_faults_after
 HasDeparted run other = ⊥
 

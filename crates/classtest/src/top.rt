@@ -50,6 +50,7 @@ fn serve<F: Shelf, K: Sink>(
     ensures shelf_later { F.faults shelf.old ≤ F.faults shelf.new }
     ensures out_later { K.faults out.old ≤ K.faults out.new }
     ensures no_fault { F.sound shelf.old → HoldsNames (map string_bytes words.now) (F.shown shelf.old) → IfErr result IsNoReadFault }
+    ensures unread { command_of (map string_bytes words.now) ≡ None → (F.shown shelf.new ≡ F.shown shelf.old) × (F.faults shelf.new ≡ F.faults shelf.old) }
 {
     match command_of(words) {
         None => Err(Refusal::NoCommand),
@@ -72,6 +73,7 @@ pub fn classtest<F: Shelf, K: Sink>(
     ensures served { let run : Run = record { words = map string_bytes words.now; shown = F.shown shelf.old; out = K.taken out.old; out_after = K.taken out.new; shelf_faults = F.faults shelf.old; shelf_faults_after = F.faults shelf.new; out_faults = K.faults out.old; out_faults_after = K.faults out.new; out_puts = K.puts out.old; out_puts_after = K.puts out.new } in
         IsServed (F.sound shelf.old) (record { run = run; status = result; err = K.taken err.old; err_after = K.taken err.new; err_faults = K.faults err.old; err_faults_after = K.faults err.new }) }
     ensures no_command { (result ≡ 2) ↔ (command_of (map string_bytes words.now) ≡ None) }
+    ensures unread { command_of (map string_bytes words.now) ≡ None → (F.shown shelf.new ≡ F.shown shelf.old) × (F.faults shelf.new ≡ F.faults shelf.old) }
     ensures keeps { Keeps (F.shown shelf.old) (F.shown shelf.new) }
     ensures shelf_later { F.faults shelf.old ≤ F.faults shelf.new }
     ensures out_later { K.faults out.old ≤ K.faults out.new }

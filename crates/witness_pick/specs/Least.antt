@@ -30,7 +30,7 @@ IsFirstWide [] variable = ⊥
 IsFirstWide (r ∷ rs) zero = r.0 <ℤ r.1
 IsFirstWide (r ∷ rs) (suc variable) = (r.1 ≤ℤ r.0) × IsFirstWide rs variable
 
--- what the search keeps: a vector in the part that is left, and no vector outside it comes before one in it
+-- what the search keeps: a vector in the part that is left, and no vector outside it on which all literals are as they say comes before one in it
 pub record IsNarrowed (ls : List Literal) (box limits : List (ℤ × ℤ)) (xs : List ℤ) : Type 0 where
   pub part : (zs : List ℤ) → IsInRanges limits zs → IsInRanges box zs
   pub inside : IsInRanges limits xs
