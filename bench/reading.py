@@ -1,0 +1,194 @@
+#!/usr/bin/env python3
+"""Times the readers of charts and words on texts of 262,144 bytes, and measures their memory: python3 bench/reading.py
+
+The program below is written into a temporary copy of the crate chart_syntax and of those below it, proved and built there
+by `rt run`. For each row it is run without reading, for the memory, and then five times with it; the best time counts.
+It is no part of the gate. It needs the kit's `rt` and Linux.
+"""
+
+import pathlib
+import shutil
+import subprocess
+import sys
+import tempfile
+
+PROGRAM = """\
+// Times a reader. The arguments are `load`, `chart` or `word`, the file of a chart and the file of a word.
+#![tactic(auto)]
+
+use chart_syntax::{ChartError, read_chart, read_word};
+use std::env;
+use std::fs;
+use std::io;
+use std::time::Instant;
+
+fn line_of(error: &ChartError) -> usize {
+    match error {
+        ChartError::Fault { line, .. } => *line,
+        ChartError::Limit { line, .. } => *line,
+        ChartError::Memory => 0,
+    }
+}
+
+fn main(rt: HostRuntime) -> io::Result<()> {
+    let mut args = env::args(&rt)?;
+    let _program = args.next();
+    let (Some(mode), Some(chart_file), Some(word_file)) = (args.next(), args.next(), args.next()) else {
+        return Ok(());
+    };
+    let chart_text = fs::read(&rt, chart_file.as_str())?;
+    let word_text = fs::read(&rt, word_file.as_str())?;
+    if mode.as_str() != "load" {
+        let start = Instant::now(&rt)?;
+        let answer = read_chart(rt.alloc(), chart_text.as_slice());
+        let mut nanos = start.elapsed(&rt)?.as_nanos();
+        match answer {
+            Ok(chart) => {
+                if mode.as_str() == "word" {
+                    let start = Instant::now(&rt)?;
+                    let answer = read_word(rt.alloc(), word_text.as_slice(), &chart);
+                    nanos = start.elapsed(&rt)?.as_nanos();
+                    match answer {
+                        Ok(vectors) => {
+                            let count = vectors.len();
+                            println!(rt; "answer {count} vectors")?;
+                        }
+                        Err(error) => {
+                            let line = line_of(&error);
+                            println!(rt; "answer refused {line}")?;
+                        }
+                    }
+                } else {
+                    let count = chart.transitions.len();
+                    println!(rt; "answer {count} transitions")?;
+                }
+            }
+            Err(error) => {
+                let line = line_of(&error);
+                println!(rt; "answer refused {line}")?;
+            }
+        }
+        println!(rt; "nanos {nanos}")?;
+    }
+    let status = fs::read_to_string(&rt, "/proc/self/status")?;
+    println!(rt; "{status}")
+}
+"""
+
+MOST_BYTES = 262_144
+SMALL = "chart 1\ninput v 0 9\noutput o 0\nstate S start\n"
+FRONT = "chart 3\ninput v 0 9\ninput w 0 9\noutput o 0\nmemory m 0 9 0\nstate S start\n"
+
+
+def whole(text):
+    """The text with a comment to the most bytes."""
+    return text + "#" * (MOST_BYTES - len(text))
+
+
+def filled(front, line, most=MOST_BYTES):
+    """The front and the line as often as it fits, at most so often."""
+    return whole(front + line * min((MOST_BYTES - len(front)) // len(line), most))
+
+
+def nested():
+    """64 states in chains of 8, each with a line on entry and one on exit that fill the text."""
+    names = [f"s{i}" for i in range(64)]
+    text = "chart 1\ninput v 0 9\noutput o 0\nmemory m 0 9 0\n"
+    for i, name in enumerate(names):
+        inside = "" if i % 8 == 0 else f" in {names[i - 1]}"
+        text += f"state {name}{inside}{' start' if i % 8 or i == 0 else ''}\n"
+    each = (MOST_BYTES - len(text)) // 128
+    for name in names:
+        for word in ("entry", "exit"):
+            line = f"{word} {name} do o=m"
+            text += line + "+m" * min((each - len(line) - 1) // 2, 508) + "\n"
+    return whole(text)
+
+
+def long_names():
+    """Names of 32 bytes in sums over all inputs and memories."""
+    name = "abcdefghijklmnopqrstuvwxyz_0123"
+    text = "chart 1\n" + "".join(f"input {name}{i} 0 9\n" for i in range(6)) + "output o 0\n"
+    text += "".join(f"memory {name}{i} 0 3 0\n" for i in range(6, 10)) + "state S start\n"
+    return filled(text, "on S when 0<" + "+".join(f"{name}{i % 10}" for i in range(30)) + "\n", 256)
+
+
+def rows():
+    guard = " and ".join(f"v + {i} <= w" for i in range(64))
+    deep = "( " * 64 + "v = 0" + " )" * 64 + "".join(f" or v = {i}" for i in range(63))
+    tokens = "on S do o=m" + "+m" * 509 + "\n"
+    numbers = "on S do o=100000" + "+100000" * 145 + "\n"
+    effects = "on S do o=1" + ",o=1" * 254 + "\n"
+    blank = "\n" * (MOST_BYTES - len(SMALL))
+    return [
+        ("chart", "guards of 64 comparisons", filled(FRONT, f"on S when {guard}\n", 256), ""),
+        ("chart", "guards of 64 parentheses and 64 comparisons", filled(FRONT, f"on S when {deep}\n", 256), ""),
+        ("chart", "lines of 1,024 tokens, the sum of a name", filled(FRONT, tokens, 256), ""),
+        ("chart", "lines of long numbers", filled(FRONT, numbers, 256), ""),
+        ("chart", "lines of 255 actions", filled(FRONT, effects, 256), ""),
+        ("chart", "sums of names of 32 bytes", long_names(), ""),
+        ("chart", "64 states, 8 deep, long lines on entry and exit", nested(), ""),
+        ("chart", "one long comment", whole(SMALL), ""),
+        ("chart", "3,744 lines of comments", filled(SMALL, "#" + " a comment" * 6 + "        \n"), ""),
+        ("chart", "262,098 blank lines", SMALL + blank, ""),
+        ("chart", "one line of 262,098 tokens, refused", SMALL + "+" * (MOST_BYTES - len(SMALL)), ""),
+        ("word", "131,072 vectors of one number", SMALL, "5\n" * (MOST_BYTES // 2)),
+        ("word", "65,536 vectors of two numbers", FRONT, "5 3\n" * (MOST_BYTES // 4)),
+        ("word", "29,127 vectors of two numbers with a sign and zeros", FRONT, whole("-00 0003\n" * (MOST_BYTES // 9))),
+        ("word", "32,768 vectors, the last refused", FRONT, "5 3    \n" * (MOST_BYTES // 8 - 1) + "5 3   5\n"),
+    ]
+
+
+CRATES = {
+    "lin_form": "smallvec thiserror",
+    "line_tokens": "lin_form thiserror",
+    "line_forms": "line_tokens lin_form sqlite_items",
+    "chart_model": "lin_form sqlite_items",
+    "chart_syntax": "chart_model line_forms line_tokens lin_form sqlite_items indexmap thiserror",
+}
+
+
+def facts_of(*words: str) -> dict:
+    told = subprocess.run(words, capture_output=True, text=True, check=True).stdout
+    return {line.split()[0].rstrip(":"): " ".join(line.split()[1:]) for line in told.splitlines() if line.split()}
+
+
+def kib(facts: dict) -> int:
+    return int(facts["VmHWM"].split()[0])
+
+
+def main() -> None:
+    crates = pathlib.Path(__file__).resolve().parent.parent / "crates"
+    with tempfile.TemporaryDirectory() as folder:
+        top = pathlib.Path(folder)
+        for name in CRATES:
+            for part in ("src", "specs", "proofs"):
+                shutil.copytree(crates / name / part, top / "crates" / name / part)
+        (top / "crates" / "timing" / "src").mkdir(parents=True)
+        (top / "crates" / "timing" / "src" / "main.rt").write_text(PROGRAM)
+        lines = [f"{name}: {below}" for name, below in CRATES.items()]
+        lines.append("timing: chart_syntax chart_model line_forms line_tokens lin_form sqlite_items")
+        (top / "crates.txt").write_text("\n".join(lines) + "\n")
+        here = top / "crates" / "timing"
+        built = subprocess.run(["rt", "run"], cwd=here, capture_output=True, text=True)
+        program = here / "out" / "timing"
+        if not program.exists():
+            sys.exit(built.stdout + built.stderr)
+        print("| text | answer | ms | ns a byte | KiB beside the texts |")
+        print("|---|---|---|---|---|")
+        for mode, name, chart, word in rows():
+            chart_file, word_file = top / "chart", top / "word"
+            chart_file.write_text(chart)
+            word_file.write_text(word)
+            files = (str(chart_file), str(word_file))
+            before = facts_of(str(program), "load", *files)
+            told = [facts_of(str(program), mode, *files) for _ in range(5)]
+            nanos = min(int(facts["nanos"]) for facts in told)
+            memory = max(kib(facts) for facts in told) - kib(before)
+            size = len(chart if mode == "chart" else word)
+            assert size == MOST_BYTES, size
+            print(f"| {name} | {told[0]['answer']} | {nanos / 1e6:.2f} | {nanos / size:.1f} | {memory:,} |")
+
+
+if __name__ == "__main__":
+    main()
