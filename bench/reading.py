@@ -100,8 +100,8 @@ def nested():
     each = (MOST_BYTES - len(text)) // 128
     for name in names:
         for word in ("entry", "exit"):
-            line = f"{word} {name} do o=m"
-            text += line + "+m" * min((each - len(line) - 1) // 2, 508) + "\n"
+            line = f"{word} {name} do o = m"
+            text += line + " + m" * min((each - len(line) - 1) // 4, 508) + "\n"
     return whole(text)
 
 
