@@ -1,50 +1,50 @@
-ghost use Rattle.std.specs.Prelude.{◌≡◌, ◌≤◌, length, map, slice_get};
+ghost use Rattle.std.specs.Prelude.{◌≡◌, ◌≤◌, length, map, slice_get, IfOk};
 ghost use Rattle.line_forms.specs.Lexemes.{AreSound, lexeme_of};
 
 use crate::lexeme::{Lexeme, meaning};
 use line_tokens::Token;
+use std::alloc::{AllocError, Global};
 use std::marker::Model;
 
-/// A line with its tokens, as what they mean.
+/// The tokens of a line, as what they mean.
 #[derive(Drop)]
-pub struct Line<'a> {
-    bytes: &'a [u8],
-    tokens: &'a [Token],
+pub struct Line {
+    lexemes: Vec<Lexeme>,
 }
 
-impl<'a> Model for Line<'a> {
-    ghost use Rattle.std.specs.Prelude.{List, map};
+impl Model for Line {
+    ghost use Rattle.std.specs.Prelude.{List};
     ghost use Rattle.line_forms.specs.declared.lexeme.Lexeme.{Lexeme};
-    ghost use Rattle.line_forms.specs.Lexemes.{AreSound, lexeme_of};
 
     ghost Value = { List Lexeme };
 
-    ghost view = { λ line. map (lexeme_of line.bytes.now) line.tokens.now };
-
-    ghost invariant = { λ line. AreSound line.bytes.now line.tokens.now };
+    ghost view = { λ line. line.lexemes.items };
 }
 
-impl<'a> Line<'a> {
-    pub fn new(bytes: &'a [u8], tokens: &'a [Token]) -> Line<'a>
+impl Line {
+    pub fn new(alloc: Global, bytes: &[u8], tokens: &[Token]) -> Result<Line, AllocError>
         requires { AreSound bytes.now tokens.now }
-        ensures value { result ≡ map (lexeme_of bytes.now) tokens.now }
-        ensures short { length result ≤ 1024 }
+        ensures value { IfOk result (λ line. line ≡ map (lexeme_of bytes.now) tokens.now) }
+        ensures short { IfOk result (λ line. length line ≤ 1024) }
     {
-        Line { bytes, tokens }
+        let mut lexemes = Vec::with_capacity(alloc, tokens.len())?;
+        'tokens: for token in tokens {
+            lexemes.push(meaning(bytes, token))?;
+        }
+        Ok(Line { lexemes })
     }
 
     /// The number of tokens.
     pub fn len(&self) -> usize
         ensures { result ≡ length self.now }
     {
-        self.tokens.len()
+        self.lexemes.len()
     }
 
     /// What the token with this number means, counted from 0.
     pub fn get(&self, at: usize) -> Option<Lexeme>
         ensures { result ≡ slice_get self.now at }
     {
-        let token = self.tokens.get(at)?;
-        Some(meaning(self.bytes, token))
+        self.lexemes.get(at).copied()
     }
 }

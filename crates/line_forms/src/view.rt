@@ -26,7 +26,10 @@ pub fn see(alloc: Global, line: &[u8]) -> Result<Option<Sighted>, TokenError>
         Ok(tokens) => tokens,
         Err(error) => return Err(error),
     };
-    let line = Line::new(content(line), tokens.as_slice());
+    let line = match Line::new(alloc, content(line), tokens.as_slice()) {
+        Ok(line) => line,
+        Err(_) => return Err(TokenError::Memory),
+    };
     if line.len() == 0 {
         return Ok(None);
     }
@@ -77,7 +80,10 @@ pub fn see_numbers(alloc: Global, line: &[u8]) -> Result<Option<WordForm>, Token
         Ok(tokens) => tokens,
         Err(error) => return Err(error),
     };
-    let line = Line::new(content(line), tokens.as_slice());
+    let line = match Line::new(alloc, content(line), tokens.as_slice()) {
+        Ok(line) => line,
+        Err(_) => return Err(TokenError::Memory),
+    };
     if line.len() == 0 {
         return Ok(None);
     }
