@@ -7,10 +7,9 @@ It is no part of the gate. It needs the kit's `rt` and Linux.
 """
 
 import pathlib
-import shutil
-import subprocess
-import sys
 import tempfile
+
+from timing import built, facts_of, peak_of, with_program
 
 PROGRAM = """\
 // Times a reader. The arguments are `load`, `chart` or `word`, the file of a chart and the file of a word.
@@ -148,32 +147,11 @@ CRATES = {
 }
 
 
-def facts_of(*words: str) -> dict:
-    told = subprocess.run(words, capture_output=True, text=True, check=True).stdout
-    return {line.split()[0].rstrip(":"): " ".join(line.split()[1:]) for line in told.splitlines() if line.split()}
-
-
-def kib(facts: dict) -> int:
-    return int(facts["VmHWM"].split()[0])
-
-
 def main() -> None:
-    crates = pathlib.Path(__file__).resolve().parent.parent / "crates"
     with tempfile.TemporaryDirectory() as folder:
         top = pathlib.Path(folder)
-        for name in CRATES:
-            for part in ("src", "specs", "proofs"):
-                shutil.copytree(crates / name / part, top / "crates" / name / part)
-        (top / "crates" / "timing" / "src").mkdir(parents=True)
-        (top / "crates" / "timing" / "src" / "main.rt").write_text(PROGRAM)
-        lines = [f"{name}: {below}" for name, below in CRATES.items()]
-        lines.append("timing: chart_syntax chart_model line_forms line_tokens lin_form sqlite_items")
-        (top / "crates.txt").write_text("\n".join(lines) + "\n")
-        here = top / "crates" / "timing"
-        built = subprocess.run(["rt", "run"], cwd=here, capture_output=True, text=True)
-        program = here / "out" / "timing"
-        if not program.exists():
-            sys.exit(built.stdout + built.stderr)
+        uses = "chart_syntax chart_model line_forms line_tokens lin_form sqlite_items"
+        program = built(with_program(top, CRATES, uses, PROGRAM))
         print("| text | answer | ms | ns a byte | KiB beside the texts |")
         print("|---|---|---|---|---|")
         for mode, name, chart, word in rows():
@@ -181,10 +159,10 @@ def main() -> None:
             chart_file.write_text(chart)
             word_file.write_text(word)
             files = (str(chart_file), str(word_file))
-            before = facts_of(str(program), "load", *files)
-            told = [facts_of(str(program), mode, *files) for _ in range(5)]
+            before = facts_of(program, "load", *files)
+            told = [facts_of(program, mode, *files) for _ in range(5)]
             nanos = min(int(facts["nanos"]) for facts in told)
-            memory = max(kib(facts) for facts in told) - kib(before)
+            memory = max(peak_of(facts) for facts in told) - peak_of(before)
             size = len(chart if mode == "chart" else word)
             assert size == MOST_BYTES, size
             print(f"| {name} | {told[0]['answer']} | {nanos / 1e6:.2f} | {nanos / size:.1f} | {memory:,} |")

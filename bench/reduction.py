@@ -6,10 +6,9 @@ The program below is written into a temporary copy of the crate and of those bel
 """
 
 import pathlib
-import shutil
-import subprocess
-import sys
 import tempfile
+
+from timing import built, facts_of, peak_of, with_program
 
 PROGRAM = """\
 // Times the reduction of a machine of 1,024 states. The arguments name the machine and give its number of letters.
@@ -108,32 +107,14 @@ ROWS = [
 CRATES = {"lin_form": "smallvec thiserror", "fsm_core": "lin_form", "reduction": "fsm_core lin_form indexmap"}
 
 
-def facts_of(*words: str) -> dict:
-    told = subprocess.run(words, capture_output=True, text=True, check=True).stdout
-    return {line.split()[0].rstrip(":"): line.split()[1] for line in told.splitlines() if len(line.split()) > 1}
-
-
 def main() -> None:
-    crates = pathlib.Path(__file__).resolve().parent.parent / "crates"
     with tempfile.TemporaryDirectory() as folder:
-        top = pathlib.Path(folder)
-        for name in CRATES:
-            for part in ("src", "specs", "proofs"):
-                shutil.copytree(crates / name / part, top / "crates" / name / part)
-        (top / "crates" / "timing" / "src").mkdir(parents=True)
-        (top / "crates" / "timing" / "src" / "main.rt").write_text(PROGRAM)
-        lines = [f"{name}: {below}" for name, below in CRATES.items()] + ["timing: reduction fsm_core lin_form"]
-        (top / "crates.txt").write_text("\n".join(lines) + "\n")
-        here = top / "crates" / "timing"
-        built = subprocess.run(["rt", "run"], cwd=here, capture_output=True, text=True)
-        program = here / "out" / "timing"
-        if not program.exists():
-            sys.exit(built.stdout + built.stderr)
+        program = built(with_program(pathlib.Path(folder), CRATES, "reduction fsm_core lin_form", PROGRAM))
         print(f"{'':48} {'states':>6} {'ms':>8} {'peak KiB':>9} {'without':>9}")
         for kind, text in ROWS:
             before = facts_of(program, kind)
             facts = facts_of(program, kind, "reduce")
-            print(f"{text:48} {facts['states']:>6} {facts['millis']:>8} {facts['VmHWM']:>9} {before['VmHWM']:>9}")
+            print(f"{text:48} {facts['states']:>6} {facts['millis']:>8} {peak_of(facts):>9} {peak_of(before):>9}")
 
 
 if __name__ == "__main__":

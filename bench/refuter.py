@@ -12,8 +12,9 @@ import random
 import resource
 import shutil
 import subprocess
-import sys
 import tempfile
+
+from timing import built, with_program
 
 PROGRAM = """\
 // Times `decide` or `least`. The arguments are numbers: 0 for `decide` or 1 for `least`, how often the call is made, the
@@ -198,21 +199,14 @@ def time_of(program, find_least, ranges, literals):
 
 
 def main() -> None:
-    crates = pathlib.Path(__file__).resolve().parent.parent / "crates"
     with tempfile.TemporaryDirectory() as folder:
         top = pathlib.Path(folder)
-        for name in CRATES:
-            for part in ("src", "specs", "proofs"):
-                shutil.copytree(crates / name / part, top / "crates" / name / part)
-        here = top / "crates" / "timing"
-        (here / "src").mkdir(parents=True)
-        (here / "src" / "main.rt").write_text(PROGRAM)
-        shutil.copy(crates / "witness_pick" / "src" / "making.rt", here / "src")
-        shutil.copytree(crates / "witness_pick" / "proofs" / "making", here / "proofs" / "making")
+        here = with_program(top, CRATES, "witness_pick linear_refuter lin_form", PROGRAM)
+        witness_pick = top / "crates" / "witness_pick"
+        shutil.copy(witness_pick / "src" / "making.rt", here / "src")
+        shutil.copytree(witness_pick / "proofs" / "making", here / "proofs" / "making")
         for path in (here / "proofs").rglob("*.antt"):
             path.write_text(path.read_text().replace("witness_pick.proofs.making", "timing.proofs.making"))
-        lines = [f"{name}: {below}" for name, below in CRATES.items()] + ["timing: witness_pick linear_refuter lin_form"]
-        (top / "crates.txt").write_text("\n".join(lines) + "\n")
         plain = (top / GUESS).read_text()
         for rule, edits in RULES:
             text = plain
@@ -220,10 +214,7 @@ def main() -> None:
                 assert text.count(old) == 1, old
                 text = text.replace(old, new)
             (top / GUESS).write_text(text)
-            built = subprocess.run(["rt", "run"], cwd=here, capture_output=True, text=True)
-            program = here / "out" / "timing"
-            if built.returncode or not program.exists():
-                sys.exit(built.stdout + built.stderr)
+            program = built(here)
             print(f"\n{rule}\n\n| literals | decide, ms | least, ms |\n|---|---|---|", flush=True)
             for name, ranges, literals in ROWS:
                 decided, splits = time_of(program, 0, ranges, literals)

@@ -7,10 +7,10 @@ of the gate. It needs the kit's `rt` alone.
 """
 
 import pathlib
-import shutil
 import subprocess
-import sys
 import tempfile
+
+from timing import built, with_program
 
 PROGRAM = """\
 // Times the steps of a chart. The arguments name the chart and give the number of rounds of four steps.
@@ -206,26 +206,14 @@ CRATES = {
 
 
 def main() -> None:
-    crates = pathlib.Path(__file__).resolve().parent.parent / "crates"
     with tempfile.TemporaryDirectory() as folder:
         top = pathlib.Path(folder)
-        for name in CRATES:
-            for part in ("src", "specs", "proofs"):
-                shutil.copytree(crates / name / part, top / "crates" / name / part)
+        here = with_program(top, CRATES, "chart_meaning chart_model lin_form", PROGRAM)
         meaning = top / "crates" / "chart_meaning" / "src" / "lib.rt"
         meaning.write_text(meaning.read_text().replace("#[cfg(test)]\nmod charts;", "pub mod charts;"))
-        here = top / "crates" / "timing"
-        (here / "src").mkdir(parents=True)
-        (here / "src" / "main.rt").write_text(PROGRAM)
         (here / "proofs" / "run").mkdir(parents=True)
         (here / "proofs" / "run" / "Invariants.antt").write_text(INVARIANTS)
-        lines = [f"{name}: {below}" for name, below in CRATES.items()]
-        lines.append("timing: chart_meaning chart_model lin_form")
-        (top / "crates.txt").write_text("\n".join(lines) + "\n")
-        built = subprocess.run(["rt", "run"], cwd=here, capture_output=True, text=True)
-        program = here / "out" / "timing"
-        if not program.exists():
-            sys.exit(built.stdout + built.stderr)
+        program = built(here)
         print("| chart | ns a step |")
         print("|---|---|")
         for kind, text in ROWS:

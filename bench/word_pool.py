@@ -6,10 +6,9 @@ for each row. It is no part of the gate. It needs the kit's `rt` and Linux.
 """
 
 import pathlib
-import shutil
-import subprocess
-import sys
 import tempfile
+
+from timing import built, facts_of, peak_of, with_program
 
 PROGRAM = """\
 // Times a pool of words. The argument names the way in which the words come.
@@ -131,24 +130,13 @@ ROWS = [
 
 
 def main() -> None:
-    crates = pathlib.Path(__file__).resolve().parent.parent / "crates"
     with tempfile.TemporaryDirectory() as folder:
-        top = pathlib.Path(folder)
-        for part in ("src", "specs", "proofs"):
-            shutil.copytree(crates / "word_pool" / part, top / "crates" / "word_pool" / part)
-        (top / "crates" / "timing" / "src").mkdir(parents=True)
-        (top / "crates" / "timing" / "src" / "main.rt").write_text(PROGRAM)
-        (top / "crates.txt").write_text("word_pool:\ntiming: word_pool\n")
-        here = top / "crates" / "timing"
-        built = subprocess.run(["rt", "run"], cwd=here, capture_output=True, text=True)
-        if not (here / "out" / "timing").exists():
-            sys.exit(built.stdout + built.stderr)
+        program = built(with_program(pathlib.Path(folder), {"word_pool": ""}, "word_pool", PROGRAM))
         print(f"{'':52} {'words':>9} {'ns a call':>9} {'peak KiB':>8} {'bytes a word':>12}")
         base = 0
         for mode, calls, text in ROWS:
-            told = subprocess.run([here / "out" / "timing", mode], capture_output=True, text=True, check=True).stdout
-            facts = {line.split()[0].rstrip(":"): line.split()[1] for line in told.splitlines() if len(line.split()) > 1}
-            words, nanos, peak = int(facts["words"]), int(facts["nanos"]), int(facts["VmHWM"])
+            facts = facts_of(program, mode)
+            words, nanos, peak = int(facts["words"]), int(facts["nanos"]), peak_of(facts)
             base = base or peak
             calls = calls or int(facts["ends"])
             print(f"{text:52} {words:9} {nanos / calls:9.1f} {peak:8} {(peak - base) * 1024 / words:12.1f}")
