@@ -140,129 +140,133 @@ fn describe(alloc: Global, line: &str) -> Result<String, AllocError> {
     }
 }
 
+/// A line, and what it says.
+const EVERY_FORM: [(&str, &str); 27] = [
+    ("", "blank"),
+    (" \t # state A\r", "blank"),
+    ("chart 01", "chart 1"),
+    ("chart 3 # three", "chart 3"),
+    ("input v -0 1000000", "input v Negated(0) Plain(1000000)"),
+    ("output o - 7", "output o Negated(7)"),
+    (
+        "memory m -1 3 -2",
+        "memory m Negated(1) Plain(3) Negated(2)",
+    ),
+    ("state A", "state A None false"),
+    ("state A in B", "state A Some(\"B\") false"),
+    ("state A start", "state A None true"),
+    ("state A in B start", "state A Some(\"B\") true"),
+    (
+        "assume a + 2*b <= 3 - c*4",
+        "assume +a+2*b LessOrEqual +3-c*4",
+    ),
+    ("assume a=b", "assume +a Equal +b"),
+    ("entry A do x = 1, y = -a", "entry A do x = +1 do y = -a"),
+    ("exit A do x = 2*a - b + 3", "exit A do x = +2*a-b+3"),
+    ("on A", "on A"),
+    ("on A go B", "on A go B false"),
+    ("on A go B history", "on A go B true"),
+    ("on A do x = 1 go A", "on A do x = +1 go A false"),
+    ("on A when a = 1", "on A when +a Equal +1"),
+    (
+        "on A when - a*2 + 2*a - 3 > 4",
+        "on A when -a*2+2*a-3 Greater +4",
+    ),
+    (
+        "on A when a < 1 or b > 2 and c != 3",
+        "on A when or[+a Less +1, and[+b Greater +2, +c NotEqual +3]]",
+    ),
+    (
+        "on A when a < 1 and b > 2 or c != 3",
+        "on A when or[and[+a Less +1, +b Greater +2], +c NotEqual +3]",
+    ),
+    (
+        "on A when a = 1 or b = 2 or c = 3",
+        "on A when or[or[+a Equal +1, +b Equal +2], +c Equal +3]",
+    ),
+    (
+        "on A when a = 1 and b = 2 and c = 3",
+        "on A when and[and[+a Equal +1, +b Equal +2], +c Equal +3]",
+    ),
+    (
+        "on A when a = 1 or (b = 2 or c = 3)",
+        "on A when or[+a Equal +1, or[+b Equal +2, +c Equal +3]]",
+    ),
+    (
+        "on A when not not ((a <= 1) or b >= 2) and not c = 0 do x = a, y = 0 go B history",
+        "on A when and[not[not[or[+a LessOrEqual +1, +b GreaterOrEqual +2]]], not[+c Equal +0]] do x = +a do y = +0 go B true",
+    ),
+];
+
 #[test]
 fn forms(rt: HostRuntime) -> Result<(), Fail> {
-    let rows = [
-        ("", "blank"),
-        (" \t # state A\r", "blank"),
-        ("chart 01", "chart 1"),
-        ("chart 3 # three", "chart 3"),
-        ("input v -0 1000000", "input v Negated(0) Plain(1000000)"),
-        ("output o - 7", "output o Negated(7)"),
-        (
-            "memory m -1 3 -2",
-            "memory m Negated(1) Plain(3) Negated(2)",
-        ),
-        ("state A", "state A None false"),
-        ("state A in B", "state A Some(\"B\") false"),
-        ("state A start", "state A None true"),
-        ("state A in B start", "state A Some(\"B\") true"),
-        (
-            "assume a + 2*b <= 3 - c*4",
-            "assume +a+2*b LessOrEqual +3-c*4",
-        ),
-        ("assume a=b", "assume +a Equal +b"),
-        ("entry A do x = 1, y = -a", "entry A do x = +1 do y = -a"),
-        ("exit A do x = 2*a - b + 3", "exit A do x = +2*a-b+3"),
-        ("on A", "on A"),
-        ("on A go B", "on A go B false"),
-        ("on A go B history", "on A go B true"),
-        ("on A do x = 1 go A", "on A do x = +1 go A false"),
-        ("on A when a = 1", "on A when +a Equal +1"),
-        (
-            "on A when - a*2 + 2*a - 3 > 4",
-            "on A when -a*2+2*a-3 Greater +4",
-        ),
-        (
-            "on A when a < 1 or b > 2 and c != 3",
-            "on A when or[+a Less +1, and[+b Greater +2, +c NotEqual +3]]",
-        ),
-        (
-            "on A when a < 1 and b > 2 or c != 3",
-            "on A when or[and[+a Less +1, +b Greater +2], +c NotEqual +3]",
-        ),
-        (
-            "on A when a = 1 or b = 2 or c = 3",
-            "on A when or[or[+a Equal +1, +b Equal +2], +c Equal +3]",
-        ),
-        (
-            "on A when a = 1 and b = 2 and c = 3",
-            "on A when and[and[+a Equal +1, +b Equal +2], +c Equal +3]",
-        ),
-        (
-            "on A when a = 1 or (b = 2 or c = 3)",
-            "on A when or[+a Equal +1, or[+b Equal +2, +c Equal +3]]",
-        ),
-        (
-            "on A when not not ((a <= 1) or b >= 2) and not c = 0 do x = a, y = 0 go B history",
-            "on A when and[not[not[or[+a LessOrEqual +1, +b GreaterOrEqual +2]]], not[+c Equal +0]] do x = +a do y = +0 go B true",
-        ),
-    ];
-    for (line, expected) in rows {
+    for (line, expected) in EVERY_FORM {
         let found = describe(rt.alloc(), line)?;
         assert_eq!(rt; found.as_str(), expected, "{line}");
     }
     Ok(())
 }
 
+/// A line that derives from nothing, and the reserved word that it begins with, or `byte` for a byte that no line has.
+const NO_FORM: [(&str, &str); 53] = [
+    ("a $ b", "byte"),
+    ("x = 1", "None none"),
+    ("5", "None none"),
+    ("row A", "Some(Row) none"),
+    ("chart", "Some(Chart) none"),
+    ("chart -1", "Some(Chart) none"),
+    ("chart 1 1", "Some(Chart) none"),
+    ("input v 0", "Some(Input) none"),
+    ("input v 0 1 2", "Some(Input) none"),
+    ("input chart 0 1", "Some(Input) none"),
+    ("output o", "Some(Output) none"),
+    ("output o 1 2", "Some(Output) none"),
+    ("memory m 0 1", "Some(Memory) none"),
+    ("memory m 0 1 0 0", "Some(Memory) none"),
+    ("state", "Some(State) none"),
+    ("state A in", "Some(State) none"),
+    ("state A start in B", "Some(State) none"),
+    ("state A start start", "Some(State) none"),
+    ("assume a", "Some(Assume) none"),
+    ("assume a != 1", "Some(Assume) none"),
+    ("assume a < 1 or b < 1", "Some(Assume) none"),
+    ("assume (a < 1)", "Some(Assume) none"),
+    ("entry A", "Some(Entry) none"),
+    ("entry A do", "Some(Entry) none"),
+    ("entry A do x = 1,", "Some(Entry) none"),
+    ("exit A do x = 1 go B", "Some(Exit) none"),
+    ("on", "Some(On) none"),
+    ("on A history", "Some(On) none"),
+    ("on A go", "Some(On) none"),
+    ("on A go history", "Some(On) none"),
+    ("on A go B history history", "Some(On) none"),
+    ("on A do x = 1 when a = 1", "Some(On) none"),
+    ("on A do x < 1", "Some(On) none"),
+    ("on A do x = 1 + go B", "Some(On) none"),
+    ("on A do x = 1 y = 2", "Some(On) none"),
+    ("on A do 1 = x", "Some(On) none"),
+    ("on A when", "Some(On) none"),
+    ("on A when a", "Some(On) none"),
+    ("on A when a = 1 or", "Some(On) none"),
+    ("on A when a = 1 and do x = 1", "Some(On) none"),
+    ("on A when or a = 1", "Some(On) none"),
+    ("on A when (a = 1", "Some(On) none"),
+    ("on A when a = 1)", "Some(On) none"),
+    ("on A when (a) = 1", "Some(On) none"),
+    ("on A when not", "Some(On) none"),
+    ("on A when a == 1", "Some(On) none"),
+    ("on A when a = 2*3", "Some(On) none"),
+    ("on A when a = b*c", "Some(On) none"),
+    ("on A when a = - - 1", "Some(On) none"),
+    ("on A when a = + 1", "Some(On) none"),
+    ("on A when a - = 1", "Some(On) none"),
+    ("on A when a = 1 = 2", "Some(On) none"),
+    ("on A gives 5000000", "Some(On) none"),
+];
+
 #[test]
 fn lines_that_derive_from_nothing(rt: HostRuntime) -> Result<(), Fail> {
-    let rows = [
-        ("a $ b", "byte"),
-        ("x = 1", "None none"),
-        ("5", "None none"),
-        ("row A", "Some(Row) none"),
-        ("chart", "Some(Chart) none"),
-        ("chart -1", "Some(Chart) none"),
-        ("chart 1 1", "Some(Chart) none"),
-        ("input v 0", "Some(Input) none"),
-        ("input v 0 1 2", "Some(Input) none"),
-        ("input chart 0 1", "Some(Input) none"),
-        ("output o", "Some(Output) none"),
-        ("output o 1 2", "Some(Output) none"),
-        ("memory m 0 1", "Some(Memory) none"),
-        ("memory m 0 1 0 0", "Some(Memory) none"),
-        ("state", "Some(State) none"),
-        ("state A in", "Some(State) none"),
-        ("state A start in B", "Some(State) none"),
-        ("state A start start", "Some(State) none"),
-        ("assume a", "Some(Assume) none"),
-        ("assume a != 1", "Some(Assume) none"),
-        ("assume a < 1 or b < 1", "Some(Assume) none"),
-        ("assume (a < 1)", "Some(Assume) none"),
-        ("entry A", "Some(Entry) none"),
-        ("entry A do", "Some(Entry) none"),
-        ("entry A do x = 1,", "Some(Entry) none"),
-        ("exit A do x = 1 go B", "Some(Exit) none"),
-        ("on", "Some(On) none"),
-        ("on A history", "Some(On) none"),
-        ("on A go", "Some(On) none"),
-        ("on A go history", "Some(On) none"),
-        ("on A go B history history", "Some(On) none"),
-        ("on A do x = 1 when a = 1", "Some(On) none"),
-        ("on A do x < 1", "Some(On) none"),
-        ("on A do x = 1 + go B", "Some(On) none"),
-        ("on A do x = 1 y = 2", "Some(On) none"),
-        ("on A do 1 = x", "Some(On) none"),
-        ("on A when", "Some(On) none"),
-        ("on A when a", "Some(On) none"),
-        ("on A when a = 1 or", "Some(On) none"),
-        ("on A when a = 1 and do x = 1", "Some(On) none"),
-        ("on A when or a = 1", "Some(On) none"),
-        ("on A when (a = 1", "Some(On) none"),
-        ("on A when a = 1)", "Some(On) none"),
-        ("on A when (a) = 1", "Some(On) none"),
-        ("on A when not", "Some(On) none"),
-        ("on A when a == 1", "Some(On) none"),
-        ("on A when a = 2*3", "Some(On) none"),
-        ("on A when a = b*c", "Some(On) none"),
-        ("on A when a = - - 1", "Some(On) none"),
-        ("on A when a = + 1", "Some(On) none"),
-        ("on A when a - = 1", "Some(On) none"),
-        ("on A when a = 1 = 2", "Some(On) none"),
-        ("on A gives 5000000", "Some(On) none"),
-    ];
-    for (line, expected) in rows {
+    for (line, expected) in NO_FORM {
         let found = describe(rt.alloc(), line)?;
         assert_eq!(rt; found.as_str(), expected, "{line}");
     }
