@@ -196,50 +196,65 @@ fn smooth(chunk: usize) -> World
     }
 }
 
+/// Calls the program where all calls succeed, and compares what it did, where `out` takes nothing.
+fn check_no_output(
+    rt: &impl Abort,
+    alloc: Global,
+    line: &str,
+    texts: &[(&str, &str)],
+    status: u8,
+    err: &str,
+) -> Result<(), AllocError> {
+    let out = "";
+    let expected = Expected { status, out, err };
+    check(rt, alloc, line, texts, smooth(4_096), expected)
+}
+
+/// The words; the status; what is put to `out` and to `err`.
+const ANSWERS: [(&str, u8, &str, &str); 38] = [
+    ("play A W", 0, "0\n1\n1\n0\n", ""),
+    ("play - W", 0, "0\n1\n1\n0\n", ""),
+    ("play A empty", 0, "", ""),
+    ("play A2 eight", 0, "1\n1\n", ""),
+    ("play COUNT zeros", 0, "1\n2\n3\n3\n", ""),
+    ("play NEST ones", 0, "2\n9\n9\n", ""),
+    ("play V 01", 0, "0\n1\n", ""),
+    ("play PARITY pairs", 0, "0\n0\n", ""),
+    ("play MON speeds", 0, "0 0\n1 1\n1 1\n0 0\n", ""),
+    ("play HIST way", 0, "1\n2\n9\n2\n9\n1\n9\n1\n", ""),
+    ("play A eleven", 3, "", "classtest: eleven:1: box\n"),
+    ("play A2 five", 3, "", "classtest: five:2: box\n"),
+    ("play A A", 3, "", "classtest: A:1: form\n"),
+    ("play P2odd pairs", 3, "", "classtest: pairs:1: box\n"),
+    ("play A pairs", 3, "", "classtest: pairs:1: form\n"),
+    ("play cut W", 3, "", "classtest: cut:6: form\n"),
+    ("play back W", 3, "", "classtest: back:2: range\n"),
+    ("play P2 pairs", 3, "", "classtest: P2:4: range\n"),
+    ("play H2 way", 3, "", "classtest: H2:13: form\n"),
+    ("play H3 way", 3, "", "classtest: H3:13: misuse\n"),
+    ("play W A", 3, "", "classtest: W:1: version\n"),
+    ("play empty W", 3, "", "classtest: empty:1: version\n"),
+    ("play wide W", 4, "", "classtest: wide:2: limit literal\n"),
+    ("play B A", 5, "", "classtest: B: read fault\n"),
+    ("play A B", 5, "", "classtest: B: read fault\n"),
+    ("play A -", 3, "", "classtest: -:1: form\n"),
+    ("play A", 2, "", "classtest: no such command\n"),
+    ("play", 2, "", "classtest: no such command\n"),
+    ("", 2, "", "classtest: no such command\n"),
+    ("play A W W", 2, "", "classtest: no such command\n"),
+    ("play  W", 2, "", "classtest: no such command\n"),
+    ("play A ", 2, "", "classtest: no such command\n"),
+    ("play - -", 2, "", "classtest: no such command\n"),
+    ("plays A W", 2, "", "classtest: no such command\n"),
+    ("Play A W", 2, "", "classtest: no such command\n"),
+    ("suite A 0 none", 2, "", "classtest: no such command\n"),
+    ("suite A x none", 2, "", "classtest: no such command\n"),
+    ("run - 2 - A", 2, "", "classtest: no such command\n"),
+];
+
 #[test]
 fn answers_and_refusals(rt: HostRuntime) -> Result<(), Fail> {
-    // The words; the status; what is put to `out` and to `err`.
-    let rows = [
-        ("play A W", 0, "0\n1\n1\n0\n", ""),
-        ("play - W", 0, "0\n1\n1\n0\n", ""),
-        ("play A empty", 0, "", ""),
-        ("play A2 eight", 0, "1\n1\n", ""),
-        ("play COUNT zeros", 0, "1\n2\n3\n3\n", ""),
-        ("play NEST ones", 0, "2\n9\n9\n", ""),
-        ("play V 01", 0, "0\n1\n", ""),
-        ("play PARITY pairs", 0, "0\n0\n", ""),
-        ("play MON speeds", 0, "0 0\n1 1\n1 1\n0 0\n", ""),
-        ("play HIST way", 0, "1\n2\n9\n2\n9\n1\n9\n1\n", ""),
-        ("play A eleven", 3, "", "classtest: eleven:1: box\n"),
-        ("play A2 five", 3, "", "classtest: five:2: box\n"),
-        ("play A A", 3, "", "classtest: A:1: form\n"),
-        ("play P2odd pairs", 3, "", "classtest: pairs:1: box\n"),
-        ("play A pairs", 3, "", "classtest: pairs:1: form\n"),
-        ("play cut W", 3, "", "classtest: cut:6: form\n"),
-        ("play back W", 3, "", "classtest: back:2: range\n"),
-        ("play P2 pairs", 3, "", "classtest: P2:4: range\n"),
-        ("play H2 way", 3, "", "classtest: H2:13: form\n"),
-        ("play H3 way", 3, "", "classtest: H3:13: misuse\n"),
-        ("play W A", 3, "", "classtest: W:1: version\n"),
-        ("play empty W", 3, "", "classtest: empty:1: version\n"),
-        ("play wide W", 4, "", "classtest: wide:2: limit literal\n"),
-        ("play B A", 5, "", "classtest: B: read fault\n"),
-        ("play A B", 5, "", "classtest: B: read fault\n"),
-        ("play A -", 3, "", "classtest: -:1: form\n"),
-        ("play A", 2, "", "classtest: no such command\n"),
-        ("play", 2, "", "classtest: no such command\n"),
-        ("", 2, "", "classtest: no such command\n"),
-        ("play A W W", 2, "", "classtest: no such command\n"),
-        ("play  W", 2, "", "classtest: no such command\n"),
-        ("play A ", 2, "", "classtest: no such command\n"),
-        ("play - -", 2, "", "classtest: no such command\n"),
-        ("plays A W", 2, "", "classtest: no such command\n"),
-        ("Play A W", 2, "", "classtest: no such command\n"),
-        ("suite A 0 none", 2, "", "classtest: no such command\n"),
-        ("suite A x none", 2, "", "classtest: no such command\n"),
-        ("run - 2 - A", 2, "", "classtest: no such command\n"),
-    ];
-    for (line, status, out, err) in rows {
+    for (line, status, out, err) in ANSWERS {
         let expected = Expected { status, out, err };
         check(&rt, rt.alloc(), line, &TEXTS, smooth(4_096), expected)?;
         // The same where each pull gives one byte and each put takes one.
@@ -334,12 +349,7 @@ fn faults_by_their_words(rt: HostRuntime) -> Result<(), Fail> {
         let line = format!(in rt.alloc(); "classtest: X:{said}\n")?;
         let err = if said.is_empty() { "" } else { line.as_str() };
         let texts = [("X", text), ("W", "")];
-        let expected = Expected {
-            status,
-            out: "",
-            err,
-        };
-        check(&rt, rt.alloc(), "play X W", &texts, smooth(4_096), expected)?;
+        check_no_output(&rt, rt.alloc(), "play X W", &texts, status, err)?;
     }
     Ok(())
 }
@@ -370,58 +380,75 @@ fn repeated(alloc: Global, text: Pieces, count: usize) -> Result<String, AllocEr
 /// A chart of four lines.
 const SHORT: &str = "chart 1\ninput v 0 1\noutput o 0\nstate S start\n";
 
+/// The lines after the inputs of a chart.
+const REST: &str = "output o 0\nstate S start\n";
+
+/// The lines before the memories of a chart.
+const DECLARED: &str = "chart 1\ninput v 0 1\noutput o 0\n";
+
+/// The lines before the assumptions of a chart.
+const ASSUMED: &str = "chart 2\ninput v 0 100\n";
+
+/// A chart up to the name of its state.
+const NAMED: &str = "chart 1\ninput v 0 1\noutput o 0\nstate ";
+
+/// A chart up to the guard of its transition.
+const GUARDED: &str = "chart 1\ninput v 0 1\noutput o 0\nstate S start\non S when ";
+
+/// A chart up to the end of its first comparison.
+const COMPARED: &str = "chart 1\ninput v 0 1\noutput o 0\nstate S start\non S when v = 0";
+
+/// A text with a piece that is repeated, how often at most, and what is said where it stands once more.
+const EDGES: [((&str, &str, bool, &str, &str), usize, &str); 10] = [
+    (
+        ("chart 1\n", "input i", true, " 0 1\n", REST),
+        6,
+        "8: limit inputs",
+    ),
+    (
+        (ASSUMED, "assume v >= ", true, "\n", REST),
+        16,
+        "19: limit assumptions",
+    ),
+    (
+        (
+            "chart 1\ninput v 0 1\n",
+            "output o",
+            true,
+            " 0\n",
+            "state S start\n",
+        ),
+        8,
+        "11: limit outputs",
+    ),
+    (
+        (DECLARED, "memory m", true, " 0 0 0\n", "state S start\n"),
+        4,
+        "8: limit memories",
+    ),
+    ((SHORT, "state T", true, "\n", ""), 63, "68: limit states"),
+    (
+        (SHORT, "on S when v = ", true, "\n", ""),
+        256,
+        "261: limit transitions",
+    ),
+    ((NAMED, "n", false, "", " start\n"), 32, "4: limit name"),
+    ((COMPARED, " + ", true, "", "\n"), 509, "5: limit tokens"),
+    (
+        (GUARDED, "not ", false, "", "v = 0\n"),
+        64,
+        "5: limit nesting",
+    ),
+    (
+        (COMPARED, " or v = ", true, "", "\n"),
+        63,
+        "5: limit comparisons",
+    ),
+];
+
 #[test]
 fn limits_at_their_edges(rt: HostRuntime) -> Result<(), Fail> {
-    let on = "chart 1\ninput v 0 1\noutput o 0\nstate S start\non S when ";
-    let sum = "chart 1\ninput v 0 1\noutput o 0\nstate S start\non S when v = 0";
-    let rest = "output o 0\nstate S start\n";
-    let named = "chart 1\ninput v 0 1\noutput o 0\nstate ";
-    let assumed = "chart 2\ninput v 0 100\n";
-    let outputs = "chart 1\ninput v 0 1\noutput o 0\n";
-    // A text with a piece that is repeated, how often at most, and what is said where it stands once more.
-    let rows = [
-        (
-            ("chart 1\n", "input i", true, " 0 1\n", rest),
-            6,
-            "8: limit inputs",
-        ),
-        (
-            (assumed, "assume v >= ", true, "\n", rest),
-            16,
-            "19: limit assumptions",
-        ),
-        (
-            (
-                "chart 1\ninput v 0 1\n",
-                "output o",
-                true,
-                " 0\n",
-                "state S start\n",
-            ),
-            8,
-            "11: limit outputs",
-        ),
-        (
-            (outputs, "memory m", true, " 0 0 0\n", "state S start\n"),
-            4,
-            "8: limit memories",
-        ),
-        ((SHORT, "state T", true, "\n", ""), 63, "68: limit states"),
-        (
-            (SHORT, "on S when v = ", true, "\n", ""),
-            256,
-            "261: limit transitions",
-        ),
-        ((named, "n", false, "", " start\n"), 32, "4: limit name"),
-        ((sum, " + ", true, "", "\n"), 509, "5: limit tokens"),
-        ((on, "not ", false, "", "v = 0\n"), 64, "5: limit nesting"),
-        (
-            (sum, " or v = ", true, "", "\n"),
-            63,
-            "5: limit comparisons",
-        ),
-    ];
-    for ((front, piece, numbered, end, back), most, said) in rows {
+    for ((front, piece, numbered, end, back), most, said) in EDGES {
         assert!(rt; most < 1_000usize);
         let text = Pieces {
             front,
@@ -434,12 +461,7 @@ fn limits_at_their_edges(rt: HostRuntime) -> Result<(), Fail> {
         for (count, status, err) in [(most, 0, ""), (most + 1, 4, line.as_str())] {
             let chart = repeated(rt.alloc(), text, count)?;
             let texts = [("X", chart.as_str()), ("W", "")];
-            let expected = Expected {
-                status,
-                out: "",
-                err,
-            };
-            check(&rt, rt.alloc(), "play X W", &texts, smooth(4_096), expected)?;
+            check_no_output(&rt, rt.alloc(), "play X W", &texts, status, err)?;
         }
     }
     Ok(())
@@ -502,6 +524,22 @@ fn long_text(alloc: Global, front: &str, more: usize) -> Result<String, AllocErr
     repeated(alloc, text, more)
 }
 
+/// The name of a chart, and the status and the line where nothing earlier is met.
+const CHARTS: [(&str, u8, &str); 4] = [
+    ("none", 5, ": read fault"),
+    ("long", 4, ": limit bytes"),
+    ("fault", 3, ":2: range"),
+    ("limit", 4, ":2: limit literal"),
+];
+
+/// The name of a word, and the status and the line where nothing earlier is met.
+const WORDS: [(&str, u8, &str); 4] = [
+    ("none-word", 5, ": read fault"),
+    ("long-word", 4, ": limit bytes"),
+    ("fault-word", 3, ":2: form"),
+    ("limit-word", 4, ":2: limit literal"),
+];
+
 #[test]
 fn causes_in_their_order(rt: HostRuntime) -> Result<(), Fail> {
     let long_chart = long_text(rt.alloc(), CHART, MOST)?;
@@ -515,66 +553,17 @@ fn causes_in_their_order(rt: HostRuntime) -> Result<(), Fail> {
         ("fault-word", "3\nx\n"),
         ("limit-word", "3\n1000001\n"),
     ];
-    // A name, and the status and the line where nothing earlier is met.
-    let charts = [
-        ("none", 5, ": read fault"),
-        ("long", 4, ": limit bytes"),
-        ("fault", 3, ":2: range"),
-        ("limit", 4, ":2: limit literal"),
-    ];
-    let words = [
-        ("none-word", 5, ": read fault"),
-        ("long-word", 4, ": limit bytes"),
-        ("fault-word", 3, ":2: form"),
-        ("limit-word", 4, ":2: limit literal"),
-    ];
-    for (word, status, said) in words {
+    for (word, status, said) in WORDS {
         let line = format!(in rt.alloc(); "play A {word}")?;
         let err = format!(in rt.alloc(); "classtest: {word}{said}\n")?;
-        let expected = Expected {
-            status,
-            out: "",
-            err: err.as_str(),
-        };
-        check(
-            &rt,
-            rt.alloc(),
-            line.as_str(),
-            &texts,
-            smooth(4_096),
-            expected,
-        )?;
-        for (chart, status, said) in charts {
+        check_no_output(&rt, rt.alloc(), line.as_str(), &texts, status, err.as_str())?;
+        for (chart, status, said) in CHARTS {
             let line = format!(in rt.alloc(); "play {chart} {word}")?;
             let err = format!(in rt.alloc(); "classtest: {chart}{said}\n")?;
-            let expected = Expected {
-                status,
-                out: "",
-                err: err.as_str(),
-            };
-            check(
-                &rt,
-                rt.alloc(),
-                line.as_str(),
-                &texts,
-                smooth(4_096),
-                expected,
-            )?;
+            check_no_output(&rt, rt.alloc(), line.as_str(), &texts, status, err.as_str())?;
             let line = format!(in rt.alloc(); "play {chart} {word} {word}")?;
             let err = "classtest: no such command\n";
-            let expected = Expected {
-                status: 2,
-                out: "",
-                err,
-            };
-            check(
-                &rt,
-                rt.alloc(),
-                line.as_str(),
-                &texts,
-                smooth(4_096),
-                expected,
-            )?;
+            check_no_output(&rt, rt.alloc(), line.as_str(), &texts, 2, err)?;
         }
     }
     Ok(())
@@ -605,6 +594,30 @@ fn check_said(
     check(rt, alloc, line, texts, world, Expected { status, out, err })
 }
 
+/// The words; which call of the shelf and which put of `out` fails; the status; what is put to `out` and to `err`.
+const CAUSES: [(&str, u64, u64, u8, &str, &str); 20] = [
+    ("play full full-word", 0, 0, 0, "0\n", ""),
+    ("play long W", 0, 0, 4, "", "long: limit bytes"),
+    ("play A long-word", 0, 1, 4, "", "long-word: limit bytes"),
+    ("play long-fault W", 0, 1, 4, "", "long-fault: limit bytes"),
+    ("play long-limit W", 0, 1, 4, "", "long-limit: limit bytes"),
+    ("play A long-fault", 0, 1, 4, "", "long-fault: limit bytes"),
+    ("play A long-limit", 0, 1, 4, "", "long-limit: limit bytes"),
+    ("play long W", 2, 1, 5, "", "long: read fault"),
+    ("play fault W", 2, 1, 5, "", "fault: read fault"),
+    ("play limit W", 2, 1, 5, "", "limit: read fault"),
+    ("play A long-word", 5, 1, 5, "", "long-word: read fault"),
+    ("play A fault", 5, 1, 5, "", "fault: read fault"),
+    ("play A limit", 5, 1, 5, "", "limit: read fault"),
+    ("play fault W", 0, 1, 3, "", "fault:1: byte"),
+    ("play limit W", 0, 1, 4, "", "limit:1: limit literal"),
+    ("play A fault", 0, 1, 3, "", "fault:1: byte"),
+    ("play A limit", 0, 1, 4, "", "limit:1: limit literal"),
+    ("play A none", 0, 1, 5, "", "none: read fault"),
+    ("play A W", 0, 1, 5, "", "write fault"),
+    ("play A", 1, 1, 2, "", "no such command"),
+];
+
 #[test]
 fn causes_in_one_text(rt: HostRuntime) -> Result<(), Fail> {
     let full_chart = long_text(rt.alloc(), CHART, MOST - CHART.len())?;
@@ -625,30 +638,7 @@ fn causes_in_one_text(rt: HostRuntime) -> Result<(), Fail> {
         ("fault", "?\n1000001\n"),
         ("limit", "1000001\n?\n"),
     ];
-    // The words; which call of the shelf and which put of `out` fails; the status; what is put to `out` and to `err`.
-    let rows = [
-        ("play full full-word", 0u64, 0u64, 0, "0\n", ""),
-        ("play long W", 0, 0, 4, "", "long: limit bytes"),
-        ("play A long-word", 0, 1, 4, "", "long-word: limit bytes"),
-        ("play long-fault W", 0, 1, 4, "", "long-fault: limit bytes"),
-        ("play long-limit W", 0, 1, 4, "", "long-limit: limit bytes"),
-        ("play A long-fault", 0, 1, 4, "", "long-fault: limit bytes"),
-        ("play A long-limit", 0, 1, 4, "", "long-limit: limit bytes"),
-        ("play long W", 2, 1, 5, "", "long: read fault"),
-        ("play fault W", 2, 1, 5, "", "fault: read fault"),
-        ("play limit W", 2, 1, 5, "", "limit: read fault"),
-        ("play A long-word", 5, 1, 5, "", "long-word: read fault"),
-        ("play A fault", 5, 1, 5, "", "fault: read fault"),
-        ("play A limit", 5, 1, 5, "", "limit: read fault"),
-        ("play fault W", 0, 1, 3, "", "fault:1: byte"),
-        ("play limit W", 0, 1, 4, "", "limit:1: limit literal"),
-        ("play A fault", 0, 1, 3, "", "fault:1: byte"),
-        ("play A limit", 0, 1, 4, "", "limit:1: limit literal"),
-        ("play A none", 0, 1, 5, "", "none: read fault"),
-        ("play A W", 0, 1, 5, "", "write fault"),
-        ("play A", 1, 1, 2, "", "no such command"),
-    ];
-    for (line, shelf, out_put, status, out, said) in rows {
+    for (line, shelf, out_put, status, out, said) in CAUSES {
         assert!(rt; shelf < 10 && out_put < 10);
         let world = World {
             chunk: 4_096,
