@@ -112,6 +112,21 @@ def long_names():
     return filled(text, "on S when 0<" + "+".join(f"{name}{i % 10}" for i in range(30)) + "\n", 256)
 
 
+def usual():
+    """A chart as people write them: 64 states in chains of 4, 4 transitions from each, each under a comment."""
+    text = "chart 1\ninput speed 0 400\ninput door 0 1\noutput alarm 0\noutput brake 0\nmemory count 0 15 0\n"
+    names = [f"state_{i}" for i in range(64)]
+    for i, name in enumerate(names):
+        text += f"state {name}" + ("" if i % 4 == 0 else f" in {names[i - 1]}") + (" start\n" if i % 4 or i == 0 else "\n")
+    lines = [
+        f"on {name} when speed >= {10 * k + i} and ( door = 0 or count < {k + 3} ) do alarm = {k}, count = {k} go {names[(5 * i + k) % 64]}\n"
+        for i, name in enumerate(names)
+        for k in range(4)
+    ]
+    comment = (MOST_BYTES - len(text) - sum(map(len, lines))) // 256 - 1
+    return whole(text + "".join("#" * comment + "\n" + line for line in lines))
+
+
 def rows():
     guard = " and ".join(f"v + {i} <= w" for i in range(64))
     deep = "( " * 64 + "v = 0" + " )" * 64 + "".join(f" or v = {i}" for i in range(63))
@@ -120,6 +135,7 @@ def rows():
     effects = "on S do o=1" + ",o=1" * 254 + "\n"
     blank = "\n" * (MOST_BYTES - len(SMALL))
     return [
+        ("chart", "64 states, 256 transitions with a guard and two actions each, comments", usual(), ""),
         ("chart", "guards of 64 comparisons", filled(FRONT, f"on S when {guard}\n", 256), ""),
         ("chart", "guards of 64 parentheses and 64 comparisons", filled(FRONT, f"on S when {deep}\n", 256), ""),
         ("chart", "lines of 1,024 tokens, the sum of a name", filled(FRONT, tokens, 256), ""),
@@ -141,7 +157,7 @@ def rows():
 CRATES = {
     "lin_form": "smallvec thiserror",
     "line_tokens": "lin_form thiserror",
-    "line_forms": "line_tokens lin_form sqlite_items",
+    "line_forms": "line_tokens lin_form sqlite_items smallvec",
     "chart_model": "lin_form sqlite_items",
     "chart_syntax": "chart_model line_forms line_tokens lin_form sqlite_items indexmap thiserror",
 }

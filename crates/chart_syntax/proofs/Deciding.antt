@@ -1,5 +1,5 @@
 -- A text is read or refused in one way.
-use Rattle.std.proofs.Common.{◌≡◌, ℕ, ◌+◌, List, [], ◌∷◌, ◌++◌, map, ℤ, Option, Some, None, refl, sym, ◌∙◌, ap, subst}
+use Rattle.std.proofs.Common.{◌≡◌, ℕ, ◌+◌, List, [], ◌∷◌, map, Option, Some, None, refl, sym, ◌∙◌, ap, subst}
 use Rattle.std.specs.Prelude.{Result, Ok, Err}
 use Rattle.std.specs.List.{All}
 use Rattle.std.proofs.lemmas.List.Elements.{All-head, All-tail}
@@ -7,12 +7,10 @@ use Rattle.lin_form.specs.declared.input.Input.{Input}
 use Rattle.lin_form.specs.declared.signature.Signature.{Signature}
 use Rattle.chart_model.specs.declared.chart.Chart.{Chart}
 use Rattle.line_tokens.specs.declared.error.TokenError.{TokenError}
-use Rattle.line_tokens.specs.Lines.{lines_of}
 use Rattle.line_forms.specs.declared.statement.InputForm.{InputForm}
 use Rattle.line_forms.specs.declared.statement.OutputForm.{OutputForm}
 use Rattle.line_forms.specs.declared.statement.Sighted.{Sighted}
-use Rattle.line_forms.specs.declared.statement.WordForm.{WordForm}
-use Rattle.line_forms.specs.Forms.{IsSighted, IsWordForm, value_of}
+use Rattle.line_forms.specs.Forms.{IsSighted, value_of}
 use Rattle.line_forms.specs.Limits.{IsSmallSight}
 use Rattle.line_forms.specs.Views.{IsView}
 use Rattle.chart_syntax.specs.declared.reader.Reader.{Reader}
@@ -21,7 +19,7 @@ use Rattle.chart_syntax.specs.Checks.{end_check}
 use Rattle.chart_syntax.specs.Promises.{HasRange, IsPartial}
 use Rattle.chart_syntax.specs.Reading.{bounds_of_input, bounds_of_form, memory_of, states_of, IsContent, IsMet, ReadsFrom, RefusesFrom, view_check, next_view}
 use Rattle.chart_syntax.proofs.Placing.{partial_sight}
-use Rattle.chart_syntax.proofs.Same.{AreSame, same_chart}
+use Rattle.chart_syntax.proofs.Same.{same_chart}
 use Rattle.chart_syntax.proofs.Whole.{inputs_fit, outputs_fit, is_chart}
 
 -- a line is one thing

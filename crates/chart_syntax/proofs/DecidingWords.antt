@@ -1,8 +1,7 @@
 -- A text is read or refused as a word over a chart in one way.
-use Rattle.std.proofs.Common.{◌≡◌, ℕ, ◌+◌, List, [], ◌∷◌, ◌++◌, length, ℤ, Option, Some, None, refl, sym, ◌∙◌, ap, subst, ◌⊎◌, inl, inr}
+use Rattle.std.proofs.Common.{◌≡◌, ℕ, ◌+◌, List, [], ◌∷◌, ◌++◌, ℤ, Option, Some, None, refl, sym, ◌∙◌, ap, subst, inl, inr}
 use Rattle.std.specs.Prelude.{Result, Ok, Err}
 use Rattle.chart_model.specs.declared.chart.Chart.{Chart}
-use Rattle.lin_form.specs.Signature.{IsInInputRanges}
 use Rattle.lin_form.proofs.CallerLemmas.{length-IsInInputRanges}
 use Rattle.line_tokens.specs.declared.error.TokenError.{TokenError}
 use Rattle.line_forms.specs.declared.statement.Signed.{Signed}

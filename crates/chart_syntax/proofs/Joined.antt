@@ -1,5 +1,5 @@
 -- The states of a chart are those declared, with their lines.
-use Rattle.std.proofs.Common.{◌≡◌, ℕ, zero, suc, ◌+◌, ◌<◌, ◌≤◌, Bool, true, false, cond, ◌&&◌, ◌||◌, not, List, [], ◌∷◌, length, map, Option, Some, None, refl, sym, ◌∙◌, ap, subst, arith}
+use Rattle.std.proofs.Common.{◌≡◌, ℕ, zero, suc, ◌<◌, ◌≤◌, Bool, true, false, cond, ◌&&◌, ◌||◌, not, List, [], ◌∷◌, length, map, Option, Some, None, refl, sym, ◌∙◌, ap, subst, arith}
 use Rattle.std.specs.Prelude.{◌==◌, slice_get, count_by, is_none, is_some, option_and_then}
 use Rattle.std.specs.List.{All, list_any}
 use Rattle.std.specs.Option.{ForSome, option_map_or}
@@ -9,11 +9,11 @@ use Rattle.std.proofs.lemmas.List.Sums.{sum_by-cons}
 use Rattle.chart_model.specs.declared.action.Action.{Action}
 use Rattle.chart_model.specs.declared.state.State.{State}
 use Rattle.chart_model.specs.Chart.{IsState, IsAction}
-use Rattle.chart_model.specs.States.{IsTree, has_children, is_top_start, is_start_child_of, is_child_of, parent_of, is_within_depth}
+use Rattle.chart_model.specs.States.{IsTree, is_top_start, is_start_child_of, is_child_of, parent_of, is_within_depth}
 use Rattle.chart_syntax.specs.declared.reader.DeclaredState.{DeclaredState}
 use Rattle.chart_syntax.specs.Checks.{is_start_under, same_parent, lacks_start}
 use Rattle.chart_syntax.specs.Checks as declared
-use Rattle.chart_syntax.specs.Promises.{AreStates, AreActions, has_depth}
+use Rattle.chart_syntax.specs.Promises.{AreStates, AreActions}
 use Rattle.chart_syntax.specs.Reading.{states_of, actions_of_line}
 use Rattle.chart_syntax.proofs.Fresh.{or_false}
 use Rattle.chart_syntax.proofs.Trees.{found_at}

@@ -1,12 +1,7 @@
 -- The lines of a text, read one after another.
-use Rattle.std.proofs.Common.{◌≡◌, ℕ, ◌+◌, ◌≤◌, ◌<◌, List, [], ◌∷◌, length, Some, None, refl, sym, ◌∙◌, subst, arith}
-use Rattle.std.specs.Prelude.{Option, Result, Ok, Err}
-use Rattle.chart_model.specs.declared.chart.Chart.{Chart}
-use Rattle.line_tokens.specs.declared.error.TokenError.{TokenError}
+use Rattle.std.proofs.Common.{◌≡◌, ℕ, ◌+◌, ◌≤◌, ◌<◌, List, [], ◌∷◌, length, Some, None, refl, sym, subst, arith}
+use Rattle.std.specs.Prelude.{Option, Ok, Err}
 use Rattle.line_tokens.specs.Lines.{lines_of}
-use Rattle.line_forms.specs.declared.statement.Sighted.{Sighted}
-use Rattle.line_forms.specs.Forms.{IsSighted}
-use Rattle.line_forms.specs.Views.{IsView}
 use Rattle.chart_syntax.specs.declared.reader.Reader.{Reader}
 use Rattle.chart_syntax.specs.declared.error.Refusal.{Refusal}
 use Rattle.chart_syntax.specs.declared.error.Refusal.TheVariants.{Fault, Limit}
@@ -14,7 +9,7 @@ use Rattle.chart_syntax.specs.declared.error.LineError.{LineError}
 use Rattle.chart_syntax.specs.declared.error.LineError.TheVariants.{Refused, Memory}
 use Rattle.chart_syntax.specs.Checks.{start, refused_at, end_check, Passes}
 use Rattle.chart_syntax.specs.Promises.{IsPartial}
-use Rattle.chart_syntax.specs.Reading.{ReadsFrom, RefusesFrom, Reads, Refuses, IsMet, IsSoFar, TakesLine, IsRefusedBy, IsContent, view_check, next_view}
+use Rattle.chart_syntax.specs.Reading.{ReadsFrom, RefusesFrom, Refuses, IsMet, IsSoFar, TakesLine, IsRefusedBy, view_check, next_view}
 
 -- the lines before the rest are read
 pub record IsReadTo (text rest : List ℕ) (s : Reader) (n : ℕ) : Type 0 where

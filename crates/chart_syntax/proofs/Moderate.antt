@@ -1,19 +1,14 @@
 -- What the forms, actions and guards that are collected keep.
-use Rattle.std.proofs.Common.{◌≡◌, ◌≢◌, ℕ, zero, suc, ◌+◌, ◌*◌, ◌<◌, ◌≤◌, ℤ, pos, Bool, true, false, List, [], ◌∷◌, ◌++◌, length, drop, take, map, get_or, Option, Some, None, refl, sym, ◌∙◌, ap, subst, arith, length-append}
-use Rattle.std.specs.Prelude.{max, unsigned_abs, nat_lt, option_map, replicate, unwrap_or, if◌then◌else◌}
+use Rattle.std.proofs.Common.{◌≡◌, ℕ, zero, suc, ◌+◌, ◌<◌, ◌≤◌, ℤ, pos, Bool, true, false, List, [], ◌∷◌, length, drop, take, Option, Some, None, refl, sym, ◌∙◌, subst, arith, length-append}
+use Rattle.std.specs.Prelude.{unsigned_abs, nat_lt, replicate, unwrap_or}
 use Rattle.std.specs.List.{All, list_all}
-use Rattle.std.specs.Option.{ForSome}
 use Rattle.std.proofs.lemmas.Bool.Decides.{nat_tests}
-use Rattle.std.proofs.lemmas.Int.{ints}
 use Rattle.std.proofs.lemmas.List.{length-take-le, length-map}
 use Rattle.std.proofs.lemmas.List.Elements.{All-nil, All-cons, All-append, All-head, All-tail}
 use Rattle.std.proofs.lemmas.List.Sums.{sum_by-take-le}
 use Rattle.std.proofs.lemmas.List.Quantifiers.{position-Some}
 use Rattle.lin_form.specs.declared.form.Comparison.{Comparison}
-use Rattle.lin_form.specs.declared.form.Form.{Form}
-use Rattle.lin_form.specs.Form.{IsModerate, size_of}
-use Rattle.lin_form.specs.Trees.{Tree}
-use Rattle.lin_form.specs.Trees as tree
+use Rattle.lin_form.specs.Form.{IsModerate}
 use Rattle.line_forms.specs.declared.statement.SignedTerm.{SignedTerm}
 use Rattle.line_forms.specs.declared.statement.TestForm.{TestForm}
 use Rattle.line_forms.specs.declared.statement.ActionForm.{ActionForm}
@@ -21,7 +16,6 @@ use Rattle.line_forms.specs.Trees as written
 use Rattle.line_forms.specs.Limits.{AreSmallTerms, IsSmallTest, IsSmallAction, AreSmallTests, IsSmallGuard}
 use Rattle.chart_model.specs.Guard.{comparisons_of, depth_of_guard}
 use Rattle.chart_model.specs.Chart.{IsFormOver, IsAction, IsGuard, AreZero, is_declared}
-use Rattle.chart_model.specs.declared.action.Place.{Place}
 use Rattle.chart_model.specs.declared.action.Place.TheVariants as place
 use Rattle.chart_syntax.specs.declared.reader.Reader.{Reader}
 use Rattle.chart_syntax.specs.declared.sum.Scope.{Scope}
@@ -30,8 +24,8 @@ use Rattle.chart_syntax.specs.declared.sum.Variable.TheVariants.{Input, Memory}
 use Rattle.chart_syntax.specs.declared.sum.Sum.{Sum}
 use Rattle.chart_syntax.specs.Names.{is_same, place_of}
 use Rattle.chart_syntax.specs.Names as named
-use Rattle.chart_syntax.specs.Collect.{or_else, use_check, input_names, output_names, memory_names, variable_in, variable_of, collect, nothing, form_of, comparison_of, value_form_of, weight, sum_check}
-use Rattle.chart_syntax.specs.Checks.{action_of, actions_of, guard_of, place_in, place_of_name, place_check, action_check, actions_check, is_zero}
+use Rattle.chart_syntax.specs.Collect.{use_check, input_names, output_names, memory_names, variable_in, collect, nothing, form_of, comparison_of, value_form_of, weight, sum_check}
+use Rattle.chart_syntax.specs.Checks.{action_of, actions_of, guard_of, place_in, place_check, action_check, actions_check, is_zero}
 use Rattle.chart_syntax.specs.Promises.{HasFew, AreActions}
 use Rattle.chart_syntax.proofs.Fresh.{or_none}
 use Rattle.chart_syntax.proofs.Sums.{weight_collect, length_collect, memory_collect, inputs_collect, HasMemories, HasNoInputs}

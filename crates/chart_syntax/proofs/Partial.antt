@@ -1,7 +1,7 @@
 -- What was declared keeps its promises with each line that passes its checks.
-use Rattle.std.proofs.Common.{◌≡◌, ◌≢◌, ℕ, zero, suc, ◌+◌, ◌*◌, ◌<◌, ◌≤◌, Bool, true, false, cond, ◌||◌, ◌&&◌, not, List, [], ◌∷◌, ◌++◌, length, map, ℤ, pos, Option, Some, None, refl, sym, ◌∙◌, ap, subst, arith, append_assoc, length-append, mul_assoc}
-use Rattle.std.specs.Prelude.{if◌then◌else◌, ◌==◌, nat_lt, nat_le, int_lt, ◌≤ℤ◌, unsigned_abs, AllPairs, slice_get, slice_set, option_map, option_and_then, unwrap_or}
-use Rattle.std.specs.List.{All, list_any, list_all}
+use Rattle.std.proofs.Common.{◌≡◌, ◌≢◌, ℕ, ◌+◌, ◌*◌, ◌<◌, ◌≤◌, Bool, true, false, ◌||◌, ◌&&◌, not, List, [], ◌∷◌, ◌++◌, length, map, Option, Some, None, refl, sym, ◌∙◌, ap, subst, arith, append_assoc, length-append, mul_assoc}
+use Rattle.std.specs.Prelude.{nat_lt, nat_le, int_lt, unsigned_abs, AllPairs, slice_get, slice_set, option_map, option_and_then, unwrap_or}
+use Rattle.std.specs.List.{All, list_any}
 use Rattle.std.specs.Option.{ForSome, option_map_or}
 use Rattle.std.proofs.lemmas.Bool.Decides.{nat_tests}
 use Rattle.std.proofs.lemmas.Int.{ints}
@@ -9,10 +9,6 @@ use Rattle.std.proofs.lemmas.List.{map-append, append-nil, length-map, length-se
 use Rattle.std.proofs.lemmas.List.Elements.{All-nil, All-push, All-set}
 use Rattle.std.proofs.lemmas.List.Folds.{list_any-append}
 use Rattle.lin_form.specs.declared.form.Relation.TheVariants as relation
-use Rattle.lin_form.specs.Range.{IsRange}
-use Rattle.line_forms.specs.declared.lexeme.Lexeme.{Lexeme}
-use Rattle.line_forms.specs.declared.keyword.Keyword.{Keyword}
-use Rattle.line_forms.specs.declared.keyword.Keyword.TheVariants as keyword
 use Rattle.line_forms.specs.declared.statement.Signed.{Signed}
 use Rattle.line_forms.specs.declared.statement.Signed.TheVariants.{Plain, Negated}
 use Rattle.line_forms.specs.declared.statement.TestForm.{TestForm}
@@ -24,10 +20,9 @@ use Rattle.line_forms.specs.declared.statement.ActionsForm.{ActionsForm}
 use Rattle.line_forms.specs.declared.statement.OnForm.{OnForm}
 use Rattle.line_forms.specs.declared.statement.Statement.{Statement}
 use Rattle.line_forms.specs.declared.statement.Statement.TheVariants as says
-use Rattle.line_forms.specs.declared.statement.Sighted.{Sighted}
 use Rattle.line_forms.specs.Trees as written
-use Rattle.line_forms.specs.Forms.{value_of, IsSighted, IsStatement, reserved_in, reserved_at}
-use Rattle.line_forms.specs.Limits.{IsFree, IsSmallNumber, IsSmallTest, IsSmallAction, IsSmallGuard, IsSmallOn, IsSmallStatement, IsSmallSight}
+use Rattle.line_forms.specs.Forms.{value_of}
+use Rattle.line_forms.specs.Limits.{IsFree, IsSmallNumber, IsSmallAction, IsSmallGuard, IsSmallStatement}
 use Rattle.chart_model.specs.declared.action.Action.{Action}
 use Rattle.chart_model.specs.Chart.{IsAssumption, IsGuard}
 use Rattle.chart_syntax.specs.declared.reader.DeclaredState.{DeclaredState}
@@ -35,12 +30,11 @@ use Rattle.chart_syntax.specs.declared.reader.Reader.{Reader}
 use Rattle.chart_syntax.specs.declared.sum.Scope.TheVariants as scope
 use Rattle.chart_syntax.specs.declared.error.Kind.TheVariants as kind
 use Rattle.chart_syntax.specs.declared.error.Which.TheVariants as which
-use Rattle.chart_syntax.specs.declared.error.Refusal.{Refusal}
 use Rattle.chart_syntax.specs.declared.error.Refusal.TheVariants.{Fault, Limit}
 use Rattle.chart_syntax.specs.Names.{is_same, is_declared, place_of}
 use Rattle.chart_syntax.specs.Collect.{or_else, use_check, input_names, output_names, memory_names, comparison_of}
-use Rattle.chart_syntax.specs.Checks.{first_of, checks, start, state_names, state_check, some_state_check, is_variable, head_check, version_check, line_check, order_check, form_check, group_of, is_version, comparisons_check, names_check, range_check, start_check, count_check, limit_check, double_check, when_check, guard_of, actions_check, actions_of, target_check, found_target_check, is_parent, is_child_of, is_outside, is_constant, is_bounded, memory_size, parent_number, depth_under, number_of, declared_state, transition_of, next_statement, next_form, next}
-use Rattle.chart_syntax.specs.Promises.{HasRange, HasSmallValue, HasMemory, HasFew, HasNoActions, AreLines, AreActions, AreStates, IsMove, AreMoves, IsPartial, has_depth, product_of, variable_names}
+use Rattle.chart_syntax.specs.Checks.{start, state_names, state_check, some_state_check, is_variable, comparisons_check, names_check, range_check, start_check, count_check, limit_check, double_check, when_check, guard_of, actions_check, actions_of, target_check, found_target_check, is_parent, is_child_of, is_outside, is_constant, is_bounded, memory_size, parent_number, depth_under, number_of, declared_state, transition_of, next_statement}
+use Rattle.chart_syntax.specs.Promises.{HasRange, HasSmallValue, HasMemory, HasFew, AreLines, AreActions, IsMove, AreMoves, IsPartial, product_of, variable_names}
 use Rattle.chart_syntax.proofs.Fresh.{or_none, if_none, or_false, below, ordered_range, different_push, number_within}
 use Rattle.chart_syntax.proofs.Moderate.{place_below, good_guard, good_actions, assumption_form, not_constant}
 use Rattle.chart_syntax.proofs.Trees.{states_push, found_at}

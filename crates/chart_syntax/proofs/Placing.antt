@@ -1,24 +1,23 @@
 -- The place of a line among the groups, and what a line that is seen and passes its checks keeps.
-use Rattle.std.proofs.Common.{◌≡◌, ◌≢◌, ℕ, ◌≤◌, Bool, true, false, ◌||◌, ◌&&◌, not, List, [], ◌∷◌, Option, Some, None, refl, sym, ◌∙◌, ap, subst, arith}
+use Rattle.std.proofs.Common.{◌≡◌, ℕ, ◌≤◌, Bool, true, false, ◌||◌, ◌&&◌, not, List, ◌∷◌, Option, Some, None, refl, sym, ap, subst, arith}
 use Rattle.std.specs.Prelude.{if◌then◌else◌, ◌==◌, nat_lt, Result, Ok, Err, OnOk}
 use Rattle.std.proofs.lemmas.Bool.Decides.{nat_tests}
 use Rattle.line_forms.specs.declared.lexeme.Lexeme.{Lexeme}
 use Rattle.line_forms.specs.declared.keyword.Keyword.{Keyword}
 use Rattle.line_forms.specs.declared.keyword.Keyword.TheVariants as keyword
-use Rattle.line_forms.specs.declared.statement.OnForm.{OnForm}
 use Rattle.line_forms.specs.declared.statement.Statement.{Statement}
 use Rattle.line_forms.specs.declared.statement.Statement.TheVariants as says
 use Rattle.line_forms.specs.declared.statement.Sighted.{Sighted}
 use Rattle.line_forms.specs.Forms.{IsSighted, IsStatement, IsHistory, reserved_in, reserved_at}
 use Rattle.line_forms.specs.Views.{Says}
-use Rattle.line_forms.specs.Limits.{IsSmallStatement, IsSmallSight}
+use Rattle.line_forms.specs.Limits.{IsSmallSight}
 use Rattle.chart_syntax.specs.declared.reader.Reader.{Reader}
 use Rattle.chart_syntax.specs.declared.error.Kind.TheVariants as kind
 use Rattle.chart_syntax.specs.declared.error.Refusal.{Refusal}
 use Rattle.chart_syntax.specs.declared.error.Refusal.TheVariants.{Fault}
 use Rattle.chart_syntax.specs.declared.error.LineError.{LineError}
 use Rattle.chart_syntax.specs.Collect.{or_else}
-use Rattle.chart_syntax.specs.Checks.{first_of, checks, head_check, version_check, line_check, order_check, form_check, group_of, is_version, comparisons_check, names_check, range_check, start_check, count_check, next_form, next, Takes}
+use Rattle.chart_syntax.specs.Checks.{first_of, checks, head_check, form_check, comparisons_check, names_check, range_check, start_check, count_check, next_form, next, Takes}
 use Rattle.chart_syntax.specs.Promises.{IsPartial}
 use Rattle.chart_syntax.proofs.Fresh.{or_none, if_none}
 use Rattle.chart_syntax.proofs.Partial.{IsPlaced, partial_statement}

@@ -1,5 +1,5 @@
 -- Charts with the same lists are the same.
-use Rattle.std.proofs.Common.{◌≡◌, List, [], ◌∷◌, length, map, ℤ, refl, sym, ◌∙◌, ap}
+use Rattle.std.proofs.Common.{◌≡◌, List, [], ◌∷◌, length, map, refl}
 use Rattle.std.proofs.Props.{props}
 use mathlib.Core.HLevel.{is_prop→PathP}
 use Rattle.lin_form.specs.declared.input.Input.{Input}

@@ -1,6 +1,6 @@
 -- Sums that are collected term by term, and how large their numbers are.
 use Rattle.std.proofs.Common.{◌≡◌, ◌≤◌, ◌<◌, ◌+◌, ◌*◌, ℕ, zero, suc, ℤ, pos, ◌+ℤ◌, Bool, true, false, List, [], ◌∷◌, length, drop, get_or, Option, Some, None, refl, sym, ◌∙◌, ap, arith}
-use Rattle.std.specs.Prelude.{unsigned_abs, slice_set, slice_index_or, option_and_then, Ok, Err}
+use Rattle.std.specs.Prelude.{unsigned_abs, slice_set, slice_index_or, option_and_then, Err}
 use Rattle.std.proofs.lemmas.Int.{ints}
 use Rattle.std.proofs.lemmas.List.{drop_more, drop-set-lt, length-set}
 use Rattle.std.proofs.lemmas.List.Elements.{All-head, All-tail}
@@ -20,13 +20,13 @@ use Rattle.chart_syntax.specs.declared.sum.Sum.{Sum}
 use Rattle.chart_syntax.specs.declared.error.LineError.{LineError}
 use Rattle.chart_syntax.specs.declared.error.LineError.TheVariants.{Refused, Memory}
 use Rattle.chart_syntax.specs.Collect.{Answers, or_else, term_check, sum_check, variable_of, variable_of_term, name_of_term, factor_of, signed, is_negative, with_value, add_term, collect, weight}
-use Rattle.chart_syntax.specs.Checks.{action_check, actions_check}
+use Rattle.chart_syntax.specs.Checks.{Passes, action_check, actions_check}
 
 -- a term or an action that is refused refuses all of them
-pub terms_failed : (s : Reader) (scope : Scope) (terms : List SignedTerm) (i : ℕ) (t : SignedTerm) (e : LineError) (x y : Sum) → i < length terms → t ≡ get_or terms i t → sum_check s scope (drop i terms) ≡ sum_check s scope terms → Answers (term_check s scope t.term) x (Err e) → Answers (sum_check s scope terms) y (Err e)
-terms_failed s scope terms i t (Refused r) x y less is same h =
+pub terms_failed : (s : Reader) (scope : Scope) (terms : List SignedTerm) (i : ℕ) (t : SignedTerm) (e : LineError) → i < length terms → t ≡ get_or terms i t → sum_check s scope (drop i terms) ≡ sum_check s scope terms → Passes (term_check s scope t.term) (Err e) → Passes (sum_check s scope terms) (Err e)
+terms_failed s scope terms i t (Refused r) less is same h =
     sym same ∙ ap (sum_check s scope) (drop_more terms i t less) ∙ ap (λ b. or_else (term_check s scope b.term) (sum_check s scope (drop (i + 1) terms))) (sym is) ∙ ap (λ o. or_else o (sum_check s scope (drop (i + 1) terms))) h
-terms_failed s scope terms i t Memory x y less is same h = tt
+terms_failed s scope terms i t Memory less is same h = tt
 
 pub actions_failed : (s : Reader) (forms : List ActionForm) (i : ℕ) (a : ActionForm) (e : LineError) (x : Action) (y : List Action) → i < length forms → a ≡ get_or forms i a → actions_check s (drop i forms) ≡ actions_check s forms → Answers (action_check s a) x (Err e) → Answers (actions_check s forms) y (Err e)
 actions_failed s forms i a (Refused r) x y less is same h =

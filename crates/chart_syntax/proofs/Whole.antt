@@ -1,15 +1,13 @@
 -- What was declared is a chart, where the end is checked.
-use Rattle.std.proofs.Common.{◌≡◌, ◌≢◌, ℕ, zero, suc, ◌+◌, ◌*◌, ◌<◌, ◌≤◌, Bool, true, false, cond, ◌||◌, ◌&&◌, not, List, [], ◌∷◌, ◌++◌, length, map, get_or, ℤ, Option, Some, None, refl, sym, ◌∙◌, ap, subst, arith, append_assoc}
-use Rattle.std.specs.Prelude.{if◌then◌else◌, ◌==◌, slice_get, unsigned_abs, ◌-ℤ◌, count_by, AllPairs, is_none, is_some, option_and_then, unwrap_or}
+use Rattle.std.proofs.Common.{◌≡◌, ◌≢◌, ℕ, ◌*◌, ◌<◌, ◌≤◌, Bool, true, false, ◌||◌, not, List, [], ◌∷◌, ◌++◌, length, map, get_or, ℤ, Option, Some, None, refl, sym, ◌∙◌, ap, subst, arith}
+use Rattle.std.specs.Prelude.{if◌then◌else◌, ◌==◌, unsigned_abs, AllPairs}
 use Rattle.std.specs.List.{All, list_any}
 use Rattle.std.specs.Option.{ForSome, option_map_or}
 use Rattle.std.proofs.lemmas.Bool.Decides.{nat_tests}
-use Rattle.std.proofs.lemmas.List.{append-nil, length-map}
-use Rattle.std.proofs.lemmas.List.Elements.{All-nil, All-cons, All-map, All-head, All-tail, All-weaker}
-use Rattle.std.proofs.lemmas.List.Sums.{sum_by-cons}
+use Rattle.std.proofs.lemmas.List.{length-map}
+use Rattle.std.proofs.lemmas.List.Elements.{All-map, All-weaker}
 use Rattle.lin_form.specs.declared.input.Input.{Input}
 use Rattle.lin_form.specs.declared.signature.Signature.{Signature}
-use Rattle.lin_form.specs.declared.form.Comparison.{Comparison}
 use Rattle.lin_form.specs.Range.{IsCount}
 use Rattle.line_forms.specs.declared.statement.InputForm.{InputForm}
 use Rattle.line_forms.specs.declared.statement.MemoryForm.{MemoryForm}
@@ -19,18 +17,17 @@ use Rattle.chart_model.specs.declared.action.Action.{Action}
 use Rattle.chart_model.specs.declared.state.Memory.{Memory}
 use Rattle.chart_model.specs.declared.state.State.{State}
 use Rattle.chart_model.specs.declared.transition.Transition.{Transition}
-use Rattle.chart_model.specs.Chart.{IsChart, IsState, IsTransition, IsAssumption, IsMemory, IsAction, AreNames, range_product}
-use Rattle.chart_model.specs.States.{IsTree, has_children, is_top_start, is_start_child_of, is_child_of, parent_of, is_within_depth}
+use Rattle.chart_model.specs.Chart.{IsChart, IsState, IsTransition, IsAssumption, IsMemory, AreNames, range_product}
+use Rattle.chart_model.specs.States.{IsTree, has_children, is_child_of}
 use Rattle.chart_syntax.specs.declared.reader.DeclaredState.{DeclaredState}
 use Rattle.chart_syntax.specs.declared.reader.Reader.{Reader}
 use Rattle.chart_syntax.specs.declared.error.Kind.TheVariants as kind
 use Rattle.chart_syntax.specs.declared.error.Refusal.{Refusal}
 use Rattle.chart_syntax.specs.declared.error.Refusal.TheVariants.{Fault}
-use Rattle.chart_syntax.specs.Collect.{input_names, output_names, memory_names}
 use Rattle.chart_syntax.specs.Checks.{state_names, end_check, is_missing, lacks_top_start, lacks_start_child, lacks_start, is_start_under, same_parent, memory_size}
 use Rattle.chart_syntax.specs.Checks as declared
-use Rattle.chart_syntax.specs.Promises.{IsPartial, HasMemory, AreStates, AreActions, AreLines, IsMove, has_depth, product_of, variable_names}
-use Rattle.chart_syntax.specs.Reading.{states_of, actions_of_line, memory_of, bounds_of_input, bounds_of_form}
+use Rattle.chart_syntax.specs.Promises.{IsPartial, HasMemory, IsMove, product_of, variable_names}
+use Rattle.chart_syntax.specs.Reading.{states_of, memory_of, bounds_of_input, bounds_of_form}
 use Rattle.chart_syntax.proofs.Fresh.{if_none, or_false, free_name}
 use Rattle.chart_syntax.proofs.Joined.{length_joined, names_joined, any_joined, lines_joined, tree_joined, children_alike}
 

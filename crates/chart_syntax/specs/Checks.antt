@@ -1,5 +1,5 @@
 -- The checks of a line of a chart in their order, what a line declares, and what is checked at the end.
-use Rattle.std.specs.Prelude.{◌≡◌, ℕ, zero, suc, ◌+◌, ◌*◌, ℤ, pos, ◌-ℤ◌, Bool, true, false, not, ◌&&◌, ◌||◌, if◌then◌else◌, ◌==◌, nat_lt, nat_le, int_lt, List, [], ◌∷◌, ◌++◌, length, map, unsigned_abs, slice_get, slice_set, Option, Some, None, is_none, is_some, unwrap_or, option_map, option_and_then, Result, Ok, Err}
+use Rattle.std.specs.Prelude.{◌≡◌, ℕ, ◌+◌, ◌*◌, ℤ, pos, ◌-ℤ◌, Bool, true, false, not, ◌&&◌, ◌||◌, if◌then◌else◌, ◌==◌, nat_lt, nat_le, int_lt, List, [], ◌∷◌, ◌++◌, length, map, unsigned_abs, slice_get, slice_set, Option, Some, None, is_some, unwrap_or, option_map, option_and_then, Result, Ok, Err}
 use Rattle.std.specs.List.{list_any, list_all}
 use Rattle.std.specs.Option.{option_map_or}
 use Rattle.std.specs.Ordering.{int_eq}
@@ -12,11 +12,9 @@ use Rattle.line_tokens.specs.declared.error.TokenError.{TokenError}
 use Rattle.line_tokens.specs.declared.error.TokenError.TheVariants as token_error
 use Rattle.line_forms.specs.declared.keyword.Keyword.{Keyword}
 use Rattle.line_forms.specs.declared.keyword.Keyword.TheVariants as keyword
-use Rattle.line_forms.specs.declared.statement.TestForm.{TestForm}
 use Rattle.line_forms.specs.declared.statement.ActionForm.{ActionForm}
 use Rattle.line_forms.specs.declared.statement.MemoryForm.{MemoryForm}
 use Rattle.line_forms.specs.declared.statement.StateForm.{StateForm}
-use Rattle.line_forms.specs.declared.statement.ActionsForm.{ActionsForm}
 use Rattle.line_forms.specs.declared.statement.OnForm.{OnForm}
 use Rattle.line_forms.specs.declared.statement.Statement.{Statement}
 use Rattle.line_forms.specs.declared.statement.Statement.TheVariants as says

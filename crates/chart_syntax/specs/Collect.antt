@@ -1,6 +1,6 @@
 -- Sums collected into forms: each name's coefficients are added up, and so are the constants. The names of a sum, from
 -- left to right, stand for inputs or memories, as the place of the sum allows.
-use Rattle.std.specs.Prelude.{◌≡◌, ℕ, ◌+◌, ℤ, pos, ◌+ℤ◌, ◌-ℤ◌, Bool, true, false, ◌||◌, if◌then◌else◌, List, [], ◌∷◌, length, map, replicate, take, slice_index_or, slice_set, unsigned_abs, Option, Some, None, option_map, option_and_then, unwrap_or, Result, Ok, Err}
+use Rattle.std.specs.Prelude.{◌≡◌, ℕ, ◌+◌, ℤ, pos, ◌+ℤ◌, ◌-ℤ◌, Bool, true, false, ◌||◌, if◌then◌else◌, List, [], ◌∷◌, length, map, replicate, take, slice_index_or, slice_set, unsigned_abs, Option, Some, None, option_and_then, Result, Ok, Err}
 use Rattle.lin_form.specs.declared.form.Form.{Form}
 use Rattle.lin_form.specs.declared.form.Comparison.{Comparison}
 use Rattle.lin_form.specs.Form.{size_of}

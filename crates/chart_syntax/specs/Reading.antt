@@ -1,5 +1,5 @@
 -- What a text reads as, where it is a chart, and the first line and the first check that refuses it, where it is none.
-use Rattle.std.specs.Prelude.{◌≡◌, ℕ, ◌+◌, ℤ, List, [], ◌∷◌, length, map, Option, Some, None, Result, Ok, Err, unwrap_or}
+use Rattle.std.specs.Prelude.{◌≡◌, ℕ, ◌+◌, ℤ, List, [], ◌∷◌, map, Option, Some, None, Result, Ok, Err, unwrap_or}
 use Rattle.lin_form.specs.declared.input.Input.{Input}
 use Rattle.chart_model.specs.declared.action.Action.{Action}
 use Rattle.chart_model.specs.declared.chart.Chart.{Chart}

@@ -50,7 +50,10 @@ pub fn actions(
     requires small { All IsSmallAction forms.now }
     ensures { Answers (actions_check reader.now forms.now) (actions_of reader.now forms.now) result }
 {
-    let mut actions = Items::new(alloc);
+    let Ok(room) = Vec::with_capacity(alloc, forms.len()) else {
+        return Err(LineError::Memory);
+    };
+    let mut actions = Items::from_vec(room);
     'forms: for form in forms {
         let action = match action(alloc, reader, form) {
             Ok(action) => action,

@@ -1,6 +1,7 @@
-ghost use Rattle.std.specs.Prelude.{◌≡◌, ◌≤◌, ◌<◌, ◌+◌, ◌*◌, ◌^◌, length, unsigned_abs, Some, None, IfOk};
+ghost use Rattle.std.specs.Prelude.{◌≡◌, ◌≤◌, ◌<◌, ◌+◌, ◌*◌, ◌^◌, length, unsigned_abs, Some, None, IfOk, OnOk};
 ghost use Rattle.line_forms.specs.Limits.{IsSmallTerm, IsSmallTest, IsSmallAction, AreSmallTerms};
 ghost use Rattle.chart_syntax.specs.Collect.{Finds, Answers, variable_of, name_check, term_check, sum_check, test_check, factor_of, signed, with_value, variable_of_term, name_of_term, is_negative, add_term, collect, nothing, form_of, comparison_of, value_form_of, weight};
+ghost use Rattle.chart_syntax.specs.Checks.{Passes};
 ghost use Rattle.chart_syntax.specs.Promises.{HasFew, HasPlace};
 
 use crate::error::{Kind, LineError, fault};
@@ -42,38 +43,46 @@ fn empty_sum() -> Sum
     }
 }
 
+/// What the name of a term in a guard stands for.
+fn find_in_guard(reader: &Reader, name: Name) -> Result<Variable, LineError>
+    ensures { Finds (variable_of reader.now Scope.Guard name) (name_check reader.now Scope.Guard name) result }
+{
+    if let Some(number) = reader.inputs.find(name) {
+        return Ok(Variable::Input(number));
+    }
+    if let Some(number) = reader.memories.find(name) {
+        return Ok(Variable::Memory(number));
+    }
+    if reader.outputs.has(name) {
+        return Err(fault(Kind::Misuse));
+    }
+    Err(fault(Kind::Unknown))
+}
+
+/// What the name of a term in an action stands for.
+fn find_in_action(reader: &Reader, name: Name) -> Result<Variable, LineError>
+    ensures { Finds (variable_of reader.now Scope.Action name) (name_check reader.now Scope.Action name) result }
+{
+    if let Some(number) = reader.memories.find(name) {
+        return Ok(Variable::Memory(number));
+    }
+    if reader.inputs.has(name) || reader.outputs.has(name) {
+        return Err(fault(Kind::Misuse));
+    }
+    Err(fault(Kind::Unknown))
+}
+
 /// What the name of a term stands for.
 fn find_variable(reader: &Reader, scope: Scope, name: Name) -> Result<Variable, LineError>
     ensures { Finds (variable_of reader.now scope name) (name_check reader.now scope name) result }
 {
-    let input = reader.inputs.find(name);
-    let memory = reader.memories.find(name);
     match scope {
-        Scope::Guard => {
-            if let Some(number) = input {
-                return Ok(Variable::Input(number));
-            }
-            if let Some(number) = memory {
-                return Ok(Variable::Memory(number));
-            }
-            if reader.outputs.has(name) {
-                return Err(fault(Kind::Misuse));
-            }
-            Err(fault(Kind::Unknown))
-        }
-        Scope::Assumption => match input {
+        Scope::Guard => find_in_guard(reader, name),
+        Scope::Assumption => match reader.inputs.find(name) {
             Some(number) => Ok(Variable::Input(number)),
             None => Err(fault(Kind::Unknown)),
         },
-        Scope::Action => {
-            if let Some(number) = memory {
-                return Ok(Variable::Memory(number));
-            }
-            if reader.inputs.has(name) || reader.outputs.has(name) {
-                return Err(fault(Kind::Misuse));
-            }
-            Err(fault(Kind::Unknown))
-        }
+        Scope::Action => find_in_action(reader, name),
     }
 }
 
@@ -90,20 +99,18 @@ fn signed_value(negated: bool, value: u32) -> i64
 }
 
 /// Adds a value to the coefficient of a variable, or to the constant.
-fn add(sum: Sum, variable: Option<Variable>, value: i64) -> Sum
+fn add(sum: &mut Sum, variable: Option<Variable>, value: i64)
     requires within { HasPlace variable }
-    requires light { weight sum ≤ 512000000 }
+    requires light { weight sum.old ≤ 512000000 }
     requires small { unsigned_abs value ≤ 1000000 }
-    ensures value { result ≡ with_value variable value sum }
-    ensures light { weight result ≤ weight sum + 1000000 }
+    ensures value { sum.new ≡ with_value variable value sum.old }
+    ensures light { weight sum.new ≤ weight sum.old + 1000000 }
 {
-    let mut sum = sum;
     match variable {
         Some(Variable::Input(number)) => sum.inputs[number] += value,
         Some(Variable::Memory(number)) => sum.memory[number] += value,
         None => sum.constant += value,
     }
-    sum
 }
 
 fn name_of(term: Term) -> Option<Name>
@@ -155,18 +162,22 @@ fn add_term(
     reader: &Reader,
     scope: Scope,
     subtracted: bool,
-    sum: Sum,
+    sum: &mut Sum,
     term: &SignedTerm,
-) -> Result<Sum, LineError>
+) -> Result<(), LineError>
     requires few { HasFew reader.now }
     requires small { IsSmallTerm term.now.term }
-    requires light { weight sum ≤ 512000000 }
-    ensures added { Answers (term_check reader.now scope term.now.term) (add_term reader.now scope subtracted sum term.now) result }
-    ensures light { IfOk result (λ added. weight added ≤ weight sum + 1000000) }
+    requires light { weight sum.old ≤ 512000000 }
+    ensures check { Passes (term_check reader.now scope term.now.term) result }
+    ensures added { OnOk result (sum.new ≡ add_term reader.now scope subtracted sum.old term.now) }
+    ensures light { OnOk result (weight sum.new ≤ weight sum.old + 1000000) }
 {
     let value = signed_value(is_negative(subtracted, term.negated), factor(term.term));
     match term_variable(reader, scope, term.term) {
-        Ok(variable) => Ok(add(sum, variable, value)),
+        Ok(variable) => {
+            add(sum, variable, value);
+            Ok(())
+        }
         Err(error) => Err(error),
     }
 }
@@ -176,23 +187,23 @@ fn collect(
     reader: &Reader,
     scope: Scope,
     subtracted: bool,
-    start: Sum,
+    sum: &mut Sum,
     terms: &[SignedTerm],
-) -> Result<Sum, LineError>
+) -> Result<(), LineError>
     requires few { HasFew reader.now }
     requires small { AreSmallTerms terms.now }
-    requires light { weight start + 1000000 * length terms.now ≤ 512000000 }
-    ensures added { Answers (sum_check reader.now scope terms.now) (collect reader.now scope subtracted start terms.now) result }
-    ensures light { IfOk result (λ sum. weight sum ≤ weight start + 1000000 * length terms.now) }
+    requires light { weight sum.old + 1000000 * length terms.now ≤ 512000000 }
+    ensures check { Passes (sum_check reader.now scope terms.now) result }
+    ensures added { OnOk result (sum.new ≡ collect reader.now scope subtracted sum.old terms.now) }
+    ensures light { OnOk result (weight sum.new ≤ weight sum.old + 1000000 * length terms.now) }
 {
-    let mut sum = start;
     'terms: for term in terms {
-        sum = match add_term(reader, scope, subtracted, sum, term) {
-            Ok(sum) => sum,
+        match add_term(reader, scope, subtracted, sum, term) {
+            Ok(()) => {}
             Err(error) => return Err(error),
-        };
+        }
     }
-    Ok(sum)
+    Ok(())
 }
 
 fn form(alloc: Global, reader: &Reader, sum: Sum) -> Form
@@ -217,8 +228,9 @@ pub fn comparison(
     requires small { IsSmallTest test.now }
     ensures { Answers (test_check reader.now scope test.now) (comparison_of reader.now scope test.now) result }
 {
-    let left = collect(reader, scope, false, empty_sum(), test.left.as_slice())?;
-    let sum = collect(reader, scope, true, left, test.right.as_slice())?;
+    let mut sum = empty_sum();
+    collect(reader, scope, false, &mut sum, test.left.as_slice())?;
+    collect(reader, scope, true, &mut sum, test.right.as_slice())?;
     Ok(Comparison {
         form: form(alloc, reader, sum),
         relation: test.relation,
@@ -232,6 +244,7 @@ pub fn value_form(alloc: Global, reader: &Reader, terms: &[SignedTerm]) -> Resul
     requires small { AreSmallTerms terms.now }
     ensures { Answers (sum_check reader.now Scope.Action terms.now) (value_form_of reader.now terms.now) result }
 {
-    let sum = collect(reader, Scope::Action, false, empty_sum(), terms)?;
+    let mut sum = empty_sum();
+    collect(reader, Scope::Action, false, &mut sum, terms)?;
     Ok(form(alloc, reader, sum))
 }

@@ -11,17 +11,22 @@ use crate::scan::token_error;
 use crate::state::has_start;
 use crate::take::take;
 use chart_model::Chart;
-use line_forms::see;
+use line_forms::Viewer;
 use line_tokens::next_line;
 use std::alloc::Global;
 
 /// Reads a line after those that the reader has read.
-fn read_line(alloc: Global, reader: &mut Reader, line: &[u8]) -> Result<(), LineError>
+fn read_line(
+    alloc: Global,
+    viewer: &mut Viewer,
+    reader: &mut Reader,
+    line: &[u8],
+) -> Result<(), LineError>
     requires { IsPartial reader.old }
     ensures line { TakesLine reader.old reader.new line.now result }
     ensures partial { OnOk result (IsPartial reader.new) }
 {
-    match see(alloc, line) {
+    match viewer.see(alloc, line) {
         Ok(Some(sighted)) => take(alloc, reader, &sighted),
         Ok(None) => Ok(()),
         Err(error) => Err(token_error(error)),
@@ -33,12 +38,13 @@ fn read_lines(alloc: Global, text: &[u8]) -> Result<(Reader, usize), ChartError>
     ensures lines { ReadsLines text.now result }
     ensures partial { IfOk result (λ r. IsPartial r.0) }
 {
+    let mut viewer = Viewer::new(alloc);
     let mut reader = begin(alloc);
     let mut rest = text;
     let mut number = 1;
     'lines: while !rest.is_empty() {
         let (line, after) = next_line(rest);
-        match read_line(alloc, &mut reader, line) {
+        match read_line(alloc, &mut viewer, &mut reader, line) {
             Ok(()) => {}
             Err(error) => return Err(at_line(number, error)),
         }

@@ -1,4 +1,4 @@
-ghost use Rattle.std.specs.Prelude.{◌≡◌, ◌≤◌, List, [], ◌∷◌, ◌++◌, length, map, All, IfOk, IfErr};
+ghost use Rattle.std.specs.Prelude.{◌≡◌, ◌≤◌, List, [], ◌∷◌, ◌++◌, length, take, map, All, IfOk, IfErr};
 ghost use Rattle.chart_model.specs.Guard.{IsReadable};
 ghost use Rattle.chart_syntax.specs.Reading.{IsRefusedBy};
 ghost use Rattle.chart_syntax.specs.Words.{IsInBox, meets, vector_of, GivesVector, TakesVector, ReadsWord, RefusesWord};
@@ -8,9 +8,9 @@ use crate::scan::token_error;
 use crate::take::value;
 use chart_model::Chart;
 use lin_form::{Comparison, Vector, holds};
-use line_forms::{Signed, WordForm, see_numbers};
+use line_forms::{Signed, Viewer, WordForm};
 use line_tokens::next_line;
-use std::alloc::{AllocError, Global};
+use std::alloc::Global;
 
 /// Whether every assumption holds for the vector.
 fn meets(assumed: &[Comparison], vector: &Vector) -> bool
@@ -25,15 +25,16 @@ fn meets(assumed: &[Comparison], vector: &Vector) -> bool
     true
 }
 
-/// The values of a line's numbers.
-fn values(alloc: Global, numbers: &[Signed]) -> Result<Vec<i64>, AllocError>
-    ensures { IfOk result (λ values. values.items ≡ vector_of numbers.now) }
+/// The values of a line's numbers, at the front.
+fn values(numbers: &[Signed]) -> [i64; 6]
+    requires { length numbers.now ≤ 6 }
+    ensures { take (length numbers.now) result ≡ vector_of numbers.now }
 {
-    let mut values = Vec::new(alloc);
-    'numbers: for number in numbers {
-        values.push(value(*number))?;
+    let mut values = [0; 6];
+    'numbers: for (index, number) in numbers.iter().enumerate() {
+        values[index] = value(*number);
     }
-    Ok(values)
+    values
 }
 
 /// The vector of a line of a word.
@@ -43,13 +44,11 @@ fn vector(alloc: Global, chart: &Chart, form: &WordForm) -> Result<Vector, LineE
     let Some(numbers) = &form.numbers else {
         return Err(fault(Kind::Form));
     };
-    let Ok(values) = values(alloc, numbers.as_slice()) else {
-        return Err(LineError::Memory);
-    };
-    if values.len() != chart.signature.inputs.as_slice().len() {
+    let count = numbers.as_slice().len();
+    if count != chart.signature.inputs.as_slice().len() {
         return Err(fault(Kind::Form));
     }
-    let vector = Vector::from_slice(alloc, values.as_slice());
+    let vector = Vector::from_slice(alloc, &values(numbers.as_slice())[..count]);
     if !chart.signature.inputs.contains(&vector) || !meets(chart.assumed.as_slice(), &vector) {
         return Err(fault(Kind::OutOfBox));
     }
@@ -59,13 +58,14 @@ fn vector(alloc: Global, chart: &Chart, form: &WordForm) -> Result<Vector, LineE
 /// Puts the vector of a line behind those of the lines before, if the line is not blank.
 fn take_vector(
     alloc: Global,
+    viewer: &mut Viewer,
     chart: &Chart,
     line: &[u8],
     vectors: &mut Vec<Vector>,
 ) -> Result<(), LineError>
     ensures { TakesVector chart.now line.now vectors.old.items vectors.new.items result }
 {
-    let form = match see_numbers(alloc, line) {
+    let form = match viewer.see_numbers(alloc, line) {
         Ok(Some(form)) => form,
         Ok(None) => return Ok(()),
         Err(error) => return Err(token_error(error)),
@@ -90,12 +90,13 @@ pub fn read_word(alloc: Global, text: &[u8], chart: &Chart) -> Result<Vec<Vector
     ensures inside { IfOk result (λ vectors. All (IsInBox chart.now) vectors.items) }
     ensures refused { IfErr result (IsRefusedBy (RefusesWord chart.now text.now)) }
 {
+    let mut viewer = Viewer::new(alloc);
     let mut vectors = Vec::new(alloc);
     let mut rest = text;
     let mut number = 1;
     'lines: while !rest.is_empty() {
         let (line, after) = next_line(rest);
-        match take_vector(alloc, chart, line, &mut vectors) {
+        match take_vector(alloc, &mut viewer, chart, line, &mut vectors) {
             Ok(()) => {}
             Err(error) => return Err(at_line(number, error)),
         }

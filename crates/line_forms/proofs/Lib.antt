@@ -10,3 +10,4 @@ pub mod Nots
 pub mod Small
 pub mod Unique
 pub mod Seen
+pub mod Keywords

@@ -1,4 +1,5 @@
 ghost use Rattle.std.specs.Prelude.{◌≡◌};
+ghost use Rattle.lin_form.specs.Name.{IsName};
 ghost use Rattle.line_forms.specs.Lexemes.{IsSound, lexeme_of, symbol_of, number_of, name_of};
 
 use crate::keyword::{Keyword, reserved_word};
@@ -54,12 +55,13 @@ fn number(value: u64) -> Lexeme
     }
 }
 
-fn name(name: Name) -> Lexeme
-    ensures { result ≡ name_of name }
+fn name(bytes: &[u8]) -> Lexeme
+    requires { IsName bytes.now }
+    ensures { result ≡ name_of bytes.now }
 {
-    match reserved_word(&name) {
+    match reserved_word(bytes) {
         Some(word) => Lexeme::Reserved(word),
-        None => Lexeme::Named(name),
+        None => Lexeme::Named(Name::from_bytes(bytes)),
     }
 }
 
@@ -69,7 +71,7 @@ pub fn meaning(bytes: &[u8], token: &Token) -> Lexeme
     ensures { result ≡ lexeme_of bytes.now token.now }
 {
     match token.word {
-        Word::Name => name(Name::from_bytes(&bytes[token.from..token.to])),
+        Word::Name => name(&bytes[token.from..token.to]),
         Word::Number(value) => number(value.unsigned_abs()),
         Word::Symbol(byte) => symbol(byte),
     }

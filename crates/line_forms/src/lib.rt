@@ -10,6 +10,7 @@ mod laws;
 mod lexeme;
 mod line;
 mod lookup;
+mod numbers;
 mod part;
 mod statement;
 mod sum;
@@ -21,8 +22,9 @@ pub use condition::{Condition, GuardForm};
 pub use keyword::Keyword;
 pub use laws::{all_small, one_numbers, one_sight, some_numbers, some_sight};
 pub use lexeme::Lexeme;
+pub use numbers::Numbers;
 pub use statement::{
     ActionForm, ActionsForm, InputForm, MemoryForm, OnForm, OutputForm, Sighted, Signed,
     SignedTerm, StateForm, Statement, Term, TestForm, WordForm,
 };
-pub use view::{see, see_numbers};
+pub use view::Viewer;

@@ -108,7 +108,10 @@ pub fn sum_at(
     let Some(term) = term_at(line, place) else {
         return Err(FormError::Form);
     };
-    let mut terms = Items::new(alloc);
+    let Ok(room) = Vec::with_capacity(alloc, 1) else {
+        return Err(FormError::Memory);
+    };
+    let mut terms = Items::from_vec(room);
     let mut end = place + size(&term);
     if terms.push(SignedTerm { negated, term }).is_err() {
         return Err(FormError::Memory);

@@ -1,24 +1,17 @@
-ghost use Rattle.std.specs.Prelude.{◌≡◌, ℕ, ◌+◌, ◌<◌, ◌≤◌, pos, true, false, List, length, map, count_by, codes, ◌||◌, All, IfOk, IfErr, MatchOption, MatchResult, Option, Some, None};
+ghost use Rattle.std.specs.Prelude.{◌≡◌, ℕ, ◌+◌, ◌<◌, ◌≤◌, pos, true, false, List, length, map, count_by, codes, ◌||◌, All, OnOk, IfErr, MatchOption, MatchResult, Option, Some, None};
 ghost use Rattle.std.specs.List.{list_all};
 ghost use Rattle.line_tokens.specs.Spelling.{starts, is_token, decimal_value, symbol_number, word_of};
 ghost use Rattle.lin_form.specs.Name.{starts_name};
 ghost use Rattle.std.specs.Char.{is_ascii_digit};
 ghost use Rattle.line_tokens.specs.Tokens.{HasPlaces, IsPlace, IsInside, run, token_at};
-ghost use Rattle.line_tokens.specs.Limits.{IsRead, IsRefused, IsLimited, first_limit, word_limit, token_limit, largest_literal, is_word, is_nesting};
+ghost use Rattle.line_tokens.specs.Limits.{IsLimited, first_limit, word_limit, token_limit, largest_literal, is_word, is_nesting};
 
 use crate::error::{TokenError, TokenLimit};
-use crate::line::content;
 use crate::place::Place;
-use crate::scan::places;
 use crate::token::{Token, Word, is_spelled};
 use crate::word::{begins_with_name, begins_with_number};
-use std::alloc::Global;
 
 const MOST_NAME_BYTES: usize = 32;
-
-const MOST_TOKENS: usize = 1_024;
-
-const MOST_NESTING: usize = 64;
 
 /// The value of a run of digits, or None where it is above `most`.
 fn number_value(digits: &[u8], most: u64) -> Option<u64>
@@ -100,13 +93,13 @@ fn stands_after_gives(line: &[u8], token: &Token, after_gives: bool) -> bool
     after_gives || is_spelled(line, token, b"gives")
 }
 
-/// The tokens at these places, or the first limit on numbers and names that they pass.
-fn read(alloc: Global, line: &[u8], places: &[Place]) -> Result<Vec<Token>, TokenError>
+/// Puts the tokens at these places into the list, or tells the first limit on numbers and names that they pass.
+pub(crate) fn read(line: &[u8], places: &[Place], tokens: &mut Vec<Token>) -> Result<(), TokenError>
     requires { HasPlaces line.now 0 places.now }
-    ensures ok { IfOk result (λ v. (v.items ≡ map (token_at line.now) places.now) × (first_limit line.now false v.items ≡ None)) }
+    ensures ok { OnOk result ((tokens.new.items ≡ map (token_at line.now) places.now) × (first_limit line.now false tokens.new.items ≡ None)) }
     ensures err { IfErr result (λ e. IsLimited line.now (map (token_at line.now) places.now) e) }
 {
-    let mut tokens = Vec::new(alloc);
+    tokens.clear();
     let mut after_gives = false;
     'places: for place in places {
         let token = match token(line, *place, after_gives) {
@@ -118,7 +111,7 @@ fn read(alloc: Global, line: &[u8], places: &[Place]) -> Result<Vec<Token>, Toke
             return Err(TokenError::Memory);
         }
     }
-    Ok(tokens)
+    Ok(())
 }
 
 fn nests(line: &[u8], token: &Token) -> bool
@@ -129,7 +122,7 @@ fn nests(line: &[u8], token: &Token) -> bool
 }
 
 /// How many of the tokens are `(` or `not`.
-fn nesting(line: &[u8], tokens: &[Token]) -> usize
+pub(crate) fn nesting(line: &[u8], tokens: &[Token]) -> usize
     requires { All (IsInside line.now) tokens.now }
     ensures { result ≡ count_by (is_nesting line.now) tokens.now }
 {
@@ -140,30 +133,4 @@ fn nesting(line: &[u8], tokens: &[Token]) -> usize
         }
     }
     count
-}
-
-/// The tokens of a line, or the first fault or limit that they show: a byte that is not allowed or begins no token,
-/// then a number or a name that is too large, then too many tokens, then too much nesting.
-pub fn line_tokens(alloc: Global, line: &[u8]) -> Result<Vec<Token>, TokenError>
-    ensures ok { IfOk result (λ v. IsRead line.now v.items) }
-    ensures err { IfErr result (λ e. IsRefused line.now e) }
-{
-    let content = content(line);
-    let Ok(found) = places(alloc, content) else {
-        return Err(TokenError::Memory);
-    };
-    let Some(places) = found else {
-        return Err(TokenError::Byte);
-    };
-    let tokens = match read(alloc, content, places.as_slice()) {
-        Ok(tokens) => tokens,
-        Err(error) => return Err(error),
-    };
-    if tokens.len() > MOST_TOKENS {
-        return Err(TokenError::Limit(TokenLimit::Tokens));
-    }
-    if nesting(content, tokens.as_slice()) > MOST_NESTING {
-        return Err(TokenError::Limit(TokenLimit::Nesting));
-    }
-    Ok(tokens)
 }

@@ -11,10 +11,11 @@ mod scan;
 #[cfg(test)]
 mod tests;
 mod token;
+mod tokenizer;
 mod word;
 
-pub use check::line_tokens;
 pub use error::{TokenError, TokenLimit};
 pub use laws::one_tokenizing;
 pub use line::{content, next_line};
 pub use token::{Token, Word, is_spelled};
+pub use tokenizer::{Tokenizer, line_tokens};

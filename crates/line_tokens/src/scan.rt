@@ -1,10 +1,10 @@
-ghost use Rattle.std.specs.Prelude.{◌≡◌, ℕ, ◌+◌, ◌<◌, ◌≤◌, List, length, IfOk, MatchOption, Option};
+ghost use Rattle.std.specs.Prelude.{◌≡◌, ℕ, ◌+◌, ◌<◌, ◌≤◌, List, length, IfOk, MatchBool};
 ghost use Rattle.line_tokens.specs.Tokens.{HasPlaces, IsNext};
 ghost use Rattle.line_tokens.specs.declared.place.Place.{Place};
 
 use crate::place::{Next, Place};
 use crate::word::{blanks, token_length};
-use std::alloc::{AllocError, Global};
+use std::alloc::AllocError;
 
 fn next_place(line: &[u8], at: usize) -> Next
     requires { at ≤ length line.now }
@@ -23,19 +23,20 @@ fn next_place(line: &[u8], at: usize) -> Next
     }
 }
 
-/// The places of a line's tokens, or None where some byte is not allowed or begins no token.
-pub(crate) fn places(alloc: Global, line: &[u8]) -> Result<Option<Vec<Place>>, AllocError>
-    ensures { IfOk result (λ found. MatchOption found ((ps : List Place) → HasPlaces line.now 0 ps → ⊥) (λ v. HasPlaces line.now 0 v.items)) }
+/// Puts the places of a line's tokens into the list, and tells whether there are any tokens that make up the line: there are
+/// none where some byte is not allowed or begins no token.
+pub(crate) fn places(line: &[u8], found: &mut Vec<Place>) -> Result<bool, AllocError>
+    ensures { IfOk result (λ tokenized. MatchBool tokenized (HasPlaces line.now 0 found.new.items) ((ps : List Place) → HasPlaces line.now 0 ps → ⊥)) }
 {
-    let mut found = Vec::new(alloc);
+    found.clear();
     let mut at = 0;
     'scan: loop {
         match next_place(line, at) {
-            Next::End => return Ok(Some(found)),
-            Next::Fault => return Ok(None),
+            Next::End => return Ok(true),
+            Next::Fault => return Ok(false),
             Next::Found(place) => {
-                found.push(place)?;
                 at = place.to;
+                found.push(place)?;
             }
         }
     }

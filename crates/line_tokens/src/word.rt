@@ -33,13 +33,21 @@ pub(crate) fn continues_name(byte: u8) -> bool
 fn is_one_symbol(byte: u8) -> bool
     ensures { result ≡ is_symbol_byte byte }
 {
-    b"<>=+-*(),".iter().any(|symbol| byte == *symbol)
+    byte == b'<'
+        || byte == b'>'
+        || byte == b'='
+        || byte == b'+'
+        || byte == b'-'
+        || byte == b'*'
+        || byte == b'('
+        || byte == b')'
+        || byte == b','
 }
 
 fn may_precede_equals(byte: u8) -> bool
     ensures { result ≡ is_before_equals byte }
 {
-    b"<>!".iter().any(|symbol| byte == *symbol)
+    byte == b'<' || byte == b'>' || byte == b'!'
 }
 
 fn leading_blanks(bytes: &[u8]) -> usize

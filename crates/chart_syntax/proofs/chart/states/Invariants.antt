@@ -1,4 +1,4 @@
-use Rattle.std.proofs.Common.{◌≡◌, ◌++◌, length, drop}
+use Rattle.std.proofs.Common.{drop}
 use Rattle.chart_syntax.proofs.Whole.{IsJoinedTo}
 use Rattle.chart_syntax.proofs.chart.states.Given as goal
 

@@ -1,7 +1,6 @@
-use Rattle.std.proofs.Common.{◌≡◌, length, rules, sym, subst}
-use Rattle.chart_syntax.specs.Promises.{IsPartial}
+use Rattle.std.proofs.Common.{◌≡◌, length, rules}
 use Rattle.chart_syntax.proofs.Partial.{partial_start}
-use Rattle.chart_syntax.proofs.Lines.{IsReadTo, lines_begin, lines_more, lines_refused, lines_end}
+use Rattle.chart_syntax.proofs.Lines.{lines_begin, lines_more, lines_refused, lines_end}
 use Rattle.chart_syntax.proofs.text.read_lines.Goals as goal
 
 pub lines-init : goal.lines-init
