@@ -17,7 +17,7 @@ use Rattle.chart_syntax.specs.declared.error.Refusal.{Refusal}
 use Rattle.chart_syntax.specs.declared.error.Refusal.TheVariants.{Fault}
 use Rattle.chart_syntax.specs.declared.error.LineError.{LineError}
 use Rattle.chart_syntax.specs.Collect.{or_else}
-use Rattle.chart_syntax.specs.Checks.{first_of, checks, head_check, form_check, comparisons_check, names_check, range_check, start_check, count_check, next_form, next, Takes}
+use Rattle.chart_syntax.specs.Checks.{first_of, checks, version_check, word_check, line_check, order_check, form_check, comparisons_check, names_check, range_check, start_check, count_check, next_form, next, Takes}
 use Rattle.chart_syntax.specs.Promises.{IsPartial}
 use Rattle.chart_syntax.proofs.Fresh.{or_none, if_none}
 use Rattle.chart_syntax.proofs.Partial.{IsPlaced, partial_statement}
@@ -59,6 +59,13 @@ alone : (ts : List Lexeme) (i : ℕ) (target : Option (List ℕ)) (history : Boo
 alone ts i None history h e = h
 alone ts i (Some name) history h e = absurd (cc)
 
+abbrev head_check : Reader → Sighted → Option Refusal
+head_check s l = or_else (version_check s.version l.form) (or_else (word_check s.version l.head) (order_check s l))
+
+-- the checks of a line's first word, one after the other
+heads_pass : (s : Reader) (l : Sighted) → line_check s l ≡ None → order_check s l ≡ None → head_check s l ≡ None
+heads_pass s l e h = let a = or_none (version_check s.version l.form) (word_check s.version l.head) e in rw (a.0, a.1, h) refl
+
 by_head : (s : Reader) (ts : List Lexeme) (said : Statement) (k : Keyword) → reserved_at ts 0 ≡ Some k → head_check s (record { head = reserved_at ts 0; form = Some said }) ≡ None → head_check s (record { head = Some k; form = Some said }) ≡ None
 by_head s ts said k e h = subst (λ o. head_check s (record { head = o; form = Some said }) ≡ None) e h
 
@@ -89,13 +96,14 @@ partial_form s head (Some said) ts p seen small pass =
     let r2 = or_else (range_check s said) r3 in
     let r1 = or_else (names_check s said) r2 in
     let r0 = or_else (comparisons_check s said) r1 in
-    let a = or_none (head_check s l) (or_else (form_check s l) r0) pass in
-    let b = or_none (form_check s l) r0 a.1 in
+    let first = or_none (line_check s l) (or_else (order_check s l) (or_else (form_check s l) r0)) pass in
+    let later = or_none (order_check s l) (or_else (form_check s l) r0) first.1 in
+    let b = or_none (form_check s l) r0 later.1 in
     let c = or_none (comparisons_check s said) r1 b.1 in
     let d = or_none (names_check s said) r2 c.1 in
     let e = or_none (range_check s said) r3 d.1 in
     let f = or_none (start_check s said) r4 e.1 in
-    let h : head_check s (record { head = reserved_at ts 0; form = Some said }) ≡ None = subst (λ o. head_check s (record { head = o; form = Some said }) ≡ None) seen.head a.0 in
+    let h : head_check s (record { head = reserved_at ts 0; form = Some said }) ≡ None = subst (λ o. head_check s (record { head = o; form = Some said }) ≡ None) seen.head (heads_pass s l first.0 later.0) in
     partial_statement s said p (placed s ts said seen.form h) (small said refl) c.0 d.0 e.0 f.0 (after_last (count_check s said) f.1)
 
 -- a line that is seen and passes its checks keeps the promises

@@ -26,8 +26,11 @@ use Rattle.chart_model.specs.declared.action.Place.{Place}
 use Rattle.chart_model.specs.declared.action.Place.TheVariants as place
 use Rattle.chart_model.specs.declared.transition.Transition.{Transition}
 use Rattle.chart_syntax.specs.declared.reader.DeclaredState.{DeclaredState}
+use Rattle.chart_syntax.specs.declared.resolve.Resolved.{Resolved}
+use Rattle.chart_syntax.specs.declared.resolve.Resolved.TheVariants as resolved
 use Rattle.chart_syntax.specs.declared.reader.Reader.{Reader}
 use Rattle.chart_syntax.specs.declared.sum.Scope.TheVariants as scope
+use Rattle.chart_syntax.specs.declared.error.Kind.{Kind}
 use Rattle.chart_syntax.specs.declared.error.Kind.TheVariants as kind
 use Rattle.chart_syntax.specs.declared.error.Which.{Which}
 use Rattle.chart_syntax.specs.declared.error.Which.TheVariants as which
@@ -70,6 +73,9 @@ first_of (check ∷ checks) s l = or_else (check s l) (first_of checks s l)
 abbrev pub state_names : Reader → List (List ℕ)
 state_names s = map (λ state. state.name) s.states
 
+abbrev pub fault_check : Bool → Kind → Option Refusal
+fault_check met kind = if met then Some (Fault kind) else None
+
 -- nothing is read
 abbrev pub start : Reader
 start = record { version = 0; group = 0; inputs = []; assumed = []; outputs = []; memories = []; product = 1; states = []; entries = []; exits = []; transitions = [] }
@@ -82,7 +88,7 @@ is_version other = false
 
 -- the first line is the stated one
 abbrev pub version_check : ℕ → Option Statement → Option Refusal
-version_check version form = if version == 0 && not (is_version form) then Some (Fault kind.Version) else None
+version_check version form = fault_check (version == 0 && not (is_version form)) kind.Version
 
 -- the group of a line by its first word, 0 where no line begins with it; in version 1 there are no assumptions
 abbrev pub group_of : ℕ → Option Keyword → ℕ
@@ -97,15 +103,15 @@ group_of version (Some keyword.On) = 6
 group_of version other = 0
 
 -- a later line begins with a word that begins lines
-abbrev pub line_check : ℕ → Option Keyword → Option Refusal
-line_check version head = if not (version == 0) && group_of version head == 0 then Some (Fault kind.NoSuchLine) else None
+abbrev pub word_check : ℕ → Option Keyword → Option Refusal
+word_check version head = fault_check (not (version == 0) && group_of version head == 0) kind.NoSuchLine
 
--- check 6: it stands after no line of a later group
-abbrev pub order_check : ℕ → ℕ → Option Keyword → Option Refusal
-order_check version group head = if not (version == 0) && nat_lt (group_of version head) group then Some (Fault kind.Misplaced) else None
+abbrev pub line_check : Check Sighted
+line_check s l = or_else (version_check s.version l.form) (word_check s.version l.head)
 
-abbrev pub head_check : Check Sighted
-head_check s l = or_else (version_check s.version l.form) (or_else (line_check s.version l.head) (order_check s.version s.group l.head))
+-- check 6: a later line stands after no line of a later group
+abbrev pub order_check : Check Sighted
+order_check s l = fault_check (not (s.version == 0) && nat_lt (group_of s.version l.head) s.group) kind.Misplaced
 
 -- check 7: the tokens derive from a form; the word `history` is one of version 3
 abbrev pub is_formed : ℕ → Option Statement → Bool
@@ -114,7 +120,7 @@ is_formed version (Some (says.On f)) = not f.history || version == 3
 is_formed version (Some other) = true
 
 abbrev pub form_check : Check Sighted
-form_check s l = if is_formed s.version l.form then None else Some (Fault kind.Form)
+form_check s l = fault_check (not (is_formed s.version l.form)) kind.Form
 
 -- check 8
 abbrev pub comparisons_check : Check Statement
@@ -125,7 +131,7 @@ comparisons_check s other = None
 
 -- a name is new in its space
 abbrev pub double_check : Bool → Option Refusal
-double_check declared = if declared then Some (Fault kind.Double) else None
+double_check declared = fault_check declared kind.Double
 
 abbrev pub is_variable : Reader → List ℕ → Bool
 is_variable s name = is_declared name (input_names s) || is_declared name (output_names s) || is_declared name (memory_names s)
@@ -177,7 +183,7 @@ is_parent s k = list_any (is_child_of k) s.states
 -- the target is a state, and one with children before the word `history`
 abbrev pub found_target_check : Reader → Option ℕ → Bool → Option Refusal
 found_target_check s None history = Some (Fault kind.Unknown)
-found_target_check s (Some k) history = if history && not (is_parent s k) then Some (Fault kind.Misuse) else None
+found_target_check s (Some k) history = fault_check (history && not (is_parent s k)) kind.Misuse
 
 abbrev pub target_check : Reader → Option (List ℕ) → Bool → Option Refusal
 target_check s None history = None
@@ -206,9 +212,9 @@ abbrev pub is_constant : Comparison → Bool
 is_constant comparison = list_all is_zero comparison.form.inputs
 
 abbrev pub range_check : Check Statement
-range_check s (says.Input f) = if int_lt (value_of f.hi) (value_of f.lo) then Some (Fault kind.Range) else None
-range_check s (says.Assume t) = if is_constant (comparison_of s scope.Assumption t) then Some (Fault kind.Range) else None
-range_check s (says.Memory f) = if is_outside f then Some (Fault kind.Range) else None
+range_check s (says.Input f) = fault_check (int_lt (value_of f.hi) (value_of f.lo)) kind.Range
+range_check s (says.Assume t) = fault_check (is_constant (comparison_of s scope.Assumption t)) kind.Range
+range_check s (says.Memory f) = fault_check (is_outside f) kind.Range
 range_check s other = None
 
 -- check 11: one start child of each parent, one start without a parent, and one entry and one exit line of each state
@@ -235,9 +241,9 @@ abbrev pub has_line : List (Option (List Action)) → ℕ → Bool
 has_line lines k = option_map_or is_some (slice_get lines k) false
 
 abbrev pub start_check : Check Statement
-start_check s (says.State f) = if f.start && list_any (is_start_under (parent_number s f.parent)) s.states then Some (Fault kind.Start) else None
-start_check s (says.Entry f) = if has_line s.entries (number_of f.state (state_names s)) then Some (Fault kind.Twice) else None
-start_check s (says.Exit f) = if has_line s.exits (number_of f.state (state_names s)) then Some (Fault kind.Twice) else None
+start_check s (says.State f) = fault_check (f.start && list_any (is_start_under (parent_number s f.parent)) s.states) kind.Start
+start_check s (says.Entry f) = fault_check (has_line s.entries (number_of f.state (state_names s))) kind.Twice
+start_check s (says.Exit f) = fault_check (has_line s.exits (number_of f.state (state_names s))) kind.Twice
 start_check s other = None
 
 -- check 12: counts
@@ -279,7 +285,7 @@ on_form check s l = on_some check s l.form
 
 -- all checks of a line with tokens, in their order
 abbrev pub checks : List (Check Sighted)
-checks = head_check ∷ form_check ∷ on_form comparisons_check ∷ on_form names_check ∷ on_form range_check ∷ on_form start_check ∷ on_form count_check ∷ []
+checks = line_check ∷ order_check ∷ form_check ∷ on_form comparisons_check ∷ on_form names_check ∷ on_form range_check ∷ on_form start_check ∷ on_form count_check ∷ []
 
 -- what a line declares
 
@@ -307,17 +313,43 @@ transition_of s f = record {
 abbrev pub declared_state : Reader → StateForm → DeclaredState
 declared_state s f = record { name = f.name; parent = parent_number s f.parent; start = f.start; depth = depth_under s (parent_number s f.parent) }
 
+-- what the names of a line stand for, where they pass
+abbrev pub resolved_of : Reader → Statement → Resolved
+resolved_of s (says.Assume t) = resolved.Assumption (comparison_of s scope.Assumption t)
+resolved_of s (says.State f) = resolved.Parent (parent_number s f.parent)
+resolved_of s (says.Entry f) = resolved.Actions (number_of f.state (state_names s)) (actions_of s f.actions)
+resolved_of s (says.Exit f) = resolved.Actions (number_of f.state (state_names s)) (actions_of s f.actions)
+resolved_of s (says.On f) = resolved.Transition (transition_of s f)
+resolved_of s other = resolved.Nothing
+
+-- what is declared with one thing more
+
+abbrev pub with_assumption : Reader → Comparison → Reader
+with_assumption s comparison = record s { group = 2; assumed = s.assumed ++ comparison ∷ [] }
+
+abbrev pub with_state : Reader → DeclaredState → Reader
+with_state s state = record s { group = 5; states = s.states ++ state ∷ []; entries = s.entries ++ None ∷ []; exits = s.exits ++ None ∷ [] }
+
+abbrev pub with_entry : Reader → ℕ → List Action → Reader
+with_entry s k actions = record s { group = 6; entries = slice_set s.entries k (Some actions) }
+
+abbrev pub with_exit : Reader → ℕ → List Action → Reader
+with_exit s k actions = record s { group = 6; exits = slice_set s.exits k (Some actions) }
+
+abbrev pub with_transition : Reader → Transition → Reader
+with_transition s transition = record s { group = 6; transitions = s.transitions ++ transition ∷ [] }
+
 -- what is declared after a line
 abbrev pub next_statement : Reader → Statement → Reader
 next_statement s (says.Chart n) = record s { version = n }
 next_statement s (says.Input f) = record s { group = 1; inputs = s.inputs ++ f ∷ [] }
-next_statement s (says.Assume t) = record s { group = 2; assumed = s.assumed ++ comparison_of s scope.Assumption t ∷ [] }
+next_statement s (says.Assume t) = with_assumption s (comparison_of s scope.Assumption t)
 next_statement s (says.Output f) = record s { group = 3; outputs = s.outputs ++ f ∷ [] }
 next_statement s (says.Memory f) = record s { group = 4; memories = s.memories ++ f ∷ []; product = s.product * memory_size f }
-next_statement s (says.State f) = record s { group = 5; states = s.states ++ declared_state s f ∷ []; entries = s.entries ++ None ∷ []; exits = s.exits ++ None ∷ [] }
-next_statement s (says.Entry f) = record s { group = 6; entries = slice_set s.entries (number_of f.state (state_names s)) (Some (actions_of s f.actions)) }
-next_statement s (says.Exit f) = record s { group = 6; exits = slice_set s.exits (number_of f.state (state_names s)) (Some (actions_of s f.actions)) }
-next_statement s (says.On f) = record s { group = 6; transitions = s.transitions ++ transition_of s f ∷ [] }
+next_statement s (says.State f) = with_state s (declared_state s f)
+next_statement s (says.Entry f) = with_entry s (number_of f.state (state_names s)) (actions_of s f.actions)
+next_statement s (says.Exit f) = with_exit s (number_of f.state (state_names s)) (actions_of s f.actions)
+next_statement s (says.On f) = with_transition s (transition_of s f)
 
 abbrev pub next_form : Reader → Option Statement → Reader
 next_form s None = s
@@ -350,6 +382,26 @@ abbrev pub Takes : {L : Type 0} → List (Check L) → (Reader → L → Reader)
 Takes all after old new l (Ok u) = (first_of all old l ≡ None) × (new ≡ after old l)
 Takes all after old new l (Err (line_error.Refused refusal)) = first_of all old l ≡ Some refusal
 Takes all after old new l (Err line_error.Memory) = Unit {0}
+
+-- what a function answers that declares what is checked: it is declared, or memory was wanted
+abbrev pub Declares : Reader → Reader → Result (Unit {0}) LineError → Type 0
+Declares after new (Ok u) = new ≡ after
+Declares after new (Err (line_error.Refused refusal)) = ⊥
+Declares after new (Err line_error.Memory) = Unit {0}
+
+-- what a line's names stand for, by what it says
+
+abbrev pub constant_in : Resolved → Bool
+constant_in (resolved.Assumption comparison) = is_constant comparison
+constant_in other = false
+
+abbrev pub parent_in : Resolved → Option ℕ
+parent_in (resolved.Parent parent) = parent
+parent_in other = None
+
+abbrev pub state_in : Resolved → ℕ
+state_in (resolved.Actions k actions) = k
+state_in other = 0
 
 -- what a function answers that makes one check
 abbrev pub Passes : Option Refusal → Result (Unit {0}) LineError → Type 0

@@ -50,10 +50,10 @@ pub fn actions(
     requires small { All IsSmallAction forms.now }
     ensures { Answers (actions_check reader.now forms.now) (actions_of reader.now forms.now) result }
 {
-    let Ok(room) = Vec::with_capacity(alloc, forms.len()) else {
+    let Ok(none) = Vec::with_capacity(alloc, forms.len()) else {
         return Err(LineError::Memory);
     };
-    let mut actions = Items::from_vec(room);
+    let mut actions = Items::from_vec(none);
     'forms: for form in forms {
         let action = match action(alloc, reader, form) {
             Ok(action) => action,

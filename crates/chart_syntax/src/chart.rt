@@ -5,7 +5,7 @@ ghost use Rattle.chart_syntax.specs.Promises.{IsPartial, HasRange};
 ghost use Rattle.chart_syntax.specs.Reading.{IsContent, bounds_of_input, bounds_of_form, memory_of, states_of, actions_of_line};
 
 use crate::reader::{DeclaredState, Reader};
-use crate::take::value;
+use crate::value::value;
 use chart_model::{Action, Chart, Memory, State};
 use lin_form::{Input, Inputs, Names, Reply, Signature};
 use line_forms::{InputForm, MemoryForm, OutputForm};
@@ -83,7 +83,7 @@ fn line_actions(alloc: Global, line: Option<Items<Action>>) -> Items<Action>
     }
 }
 
-/// The states with their actions, the last of which stand last in the lists of lines.
+/// The states with their actions, which stand in the lists of lines at the places of their states.
 fn states(
     alloc: Global,
     declared: &[DeclaredState],

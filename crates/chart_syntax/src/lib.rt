@@ -3,11 +3,14 @@
 
 mod action;
 mod chart;
+mod check;
+mod declare;
 mod error;
 mod guard;
 mod laws;
 mod names;
 mod reader;
+mod resolve;
 mod scan;
 mod state;
 mod sum;
@@ -17,6 +20,7 @@ mod take;
 mod tests;
 mod text;
 mod transition;
+mod value;
 mod word;
 
 pub use chart_model::{Action, Chart, Condition, Guard, Memory, Place, State, Transition};

@@ -15,10 +15,6 @@ use line_forms::{ActionsForm, StateForm};
 use sqlite_items::Items;
 use std::alloc::Global;
 
-const MOST_STATES: usize = 64;
-
-const LARGEST_DEPTH: usize = 8;
-
 /// The number of a declared state.
 pub fn state(reader: &Reader, name: Name) -> Result<usize, LineError>
     ensures found { Answers (state_check reader.now name) (number_of name (state_names reader.now)) result }
@@ -31,7 +27,7 @@ pub fn state(reader: &Reader, name: Name) -> Result<usize, LineError>
 }
 
 /// The number of the state that contains a new one, if one does.
-fn parent(reader: &Reader, name: Option<Name>) -> Result<Option<usize>, LineError>
+pub fn parent(reader: &Reader, name: Option<Name>) -> Result<Option<usize>, LineError>
     ensures { Answers (some_state_check reader.now name) (parent_number reader.now name) result }
 {
     let Some(name) = name else {
@@ -63,7 +59,7 @@ pub fn has_start(states: &[DeclaredState], parent: Option<usize>) -> bool
 }
 
 /// The depth of a state of this parent.
-fn depth(reader: &Reader, parent: Option<usize>) -> usize
+pub fn depth(reader: &Reader, parent: Option<usize>) -> usize
     requires { IsPartial reader.now }
     ensures { result ≡ depth_under reader.now parent }
 {
@@ -76,91 +72,12 @@ fn depth(reader: &Reader, parent: Option<usize>) -> usize
     }
 }
 
-pub fn take_state(alloc: Global, reader: &mut Reader, form: StateForm) -> Result<(), LineError>
-    requires { IsPartial reader.old }
-    ensures { Takes statement_checks next_statement reader.old reader.new (says.State form) result }
-{
-    if reader.states.has(form.name) {
-        return Err(fault(Kind::Double));
-    }
-    let parent = match parent(reader, form.parent) {
-        Ok(parent) => parent,
-        Err(error) => return Err(error),
-    };
-    if form.start && has_start(reader.states.as_slice(), parent) {
-        return Err(fault(Kind::Start));
-    }
-    if reader.states.len() >= MOST_STATES {
-        return Err(limit(Which::States));
-    }
-    let depth = depth(reader, parent);
-    if depth > LARGEST_DEPTH {
-        return Err(limit(Which::Depth));
-    }
-    let state = DeclaredState {
-        name: form.name,
-        parent,
-        start: form.start,
-        depth,
-    };
-    if reader.states.push(state).is_err()
-        || reader.entries.push(None).is_err()
-        || reader.exits.push(None).is_err()
-    {
-        return Err(LineError::Memory);
-    }
-    reader.group = 5;
-    Ok(())
-}
-
 /// Whether a state has its line on entry, or on exit, already.
-fn has_line(lines: &[Option<Items<Action>>], number: usize) -> bool
+pub fn has_line(lines: &[Option<Items<Action>>], number: usize) -> bool
     ensures { result ≡ has_line lines.now number }
 {
     match lines.get(number) {
         Some(Some(_)) => true,
         _ => false,
     }
-}
-
-pub fn take_entry(alloc: Global, reader: &mut Reader, form: &ActionsForm) -> Result<(), LineError>
-    requires few { HasFew reader.old }
-    requires small { All IsSmallAction form.now.actions }
-    ensures { Takes statement_checks next_statement reader.old reader.new (says.Entry form.now) result }
-{
-    let number = match state(reader, form.state) {
-        Ok(number) => number,
-        Err(error) => return Err(error),
-    };
-    let actions = match actions(alloc, reader, form.actions.as_slice()) {
-        Ok(actions) => actions,
-        Err(error) => return Err(error),
-    };
-    if has_line(reader.entries.as_slice(), number) {
-        return Err(fault(Kind::Twice));
-    }
-    reader.entries.set(number, Some(actions));
-    reader.group = 6;
-    Ok(())
-}
-
-pub fn take_exit(alloc: Global, reader: &mut Reader, form: &ActionsForm) -> Result<(), LineError>
-    requires few { HasFew reader.old }
-    requires small { All IsSmallAction form.now.actions }
-    ensures { Takes statement_checks next_statement reader.old reader.new (says.Exit form.now) result }
-{
-    let number = match state(reader, form.state) {
-        Ok(number) => number,
-        Err(error) => return Err(error),
-    };
-    let actions = match actions(alloc, reader, form.actions.as_slice()) {
-        Ok(actions) => actions,
-        Err(error) => return Err(error),
-    };
-    if has_line(reader.exits.as_slice(), number) {
-        return Err(fault(Kind::Twice));
-    }
-    reader.exits.set(number, Some(actions));
-    reader.group = 6;
-    Ok(())
 }

@@ -16,22 +16,6 @@ use lin_form::Name;
 use line_forms::OnForm;
 use std::alloc::Global;
 
-const MOST_COMPARISONS: usize = 64;
-
-const MOST_TRANSITIONS: usize = 256;
-
-fn check_comparisons(reader: &Reader, form: &OnForm) -> Result<(), LineError>
-    ensures { Passes (comparisons_check reader.now (says.On form.now)) result }
-{
-    let Some(guard) = &form.guard else {
-        return Ok(());
-    };
-    match comparisons_left(guard.condition(), MOST_COMPARISONS) {
-        Some(_) => Ok(()),
-        None => Err(limit(Which::Comparisons)),
-    }
-}
-
 fn is_child_of(parent: usize, state: &DeclaredState) -> bool
     ensures { result ≡ is_child_of parent state.now }
 {
@@ -69,7 +53,8 @@ fn target(reader: &Reader, name: Option<Name>, history: bool) -> Result<Option<u
     }
 }
 
-fn transition(alloc: Global, reader: &Reader, form: &OnForm) -> Result<Transition, LineError>
+/// The transition of a line over what is declared.
+pub fn transition(alloc: Global, reader: &Reader, form: &OnForm) -> Result<Transition, LineError>
     requires few { HasFew reader.now }
     requires small { IsSmallOn form.now }
     ensures { Answers (names_check reader.now (says.On form.now)) (transition_of reader.now form.now) result }
@@ -85,27 +70,4 @@ fn transition(alloc: Global, reader: &Reader, form: &OnForm) -> Result<Transitio
         target,
         history: form.history,
     })
-}
-
-pub fn take_transition(alloc: Global, reader: &mut Reader, form: &OnForm) -> Result<(), LineError>
-    requires few { HasFew reader.old }
-    requires small { IsSmallOn form.now }
-    ensures { Takes statement_checks next_statement reader.old reader.new (says.On form.now) result }
-{
-    match check_comparisons(reader, form) {
-        Ok(()) => {}
-        Err(error) => return Err(error),
-    }
-    let transition = match transition(alloc, reader, form) {
-        Ok(transition) => transition,
-        Err(error) => return Err(error),
-    };
-    if reader.transitions.len() >= MOST_TRANSITIONS {
-        return Err(limit(Which::Transitions));
-    }
-    if reader.transitions.push(transition).is_err() {
-        return Err(LineError::Memory);
-    }
-    reader.group = 6;
-    Ok(())
 }

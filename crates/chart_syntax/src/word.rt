@@ -5,7 +5,7 @@ ghost use Rattle.chart_syntax.specs.Words.{IsInBox, meets, vector_of, GivesVecto
 
 use crate::error::{ChartError, Kind, LineError, at_line, fault};
 use crate::scan::token_error;
-use crate::take::value;
+use crate::value::value;
 use chart_model::Chart;
 use lin_form::{Comparison, Vector, holds};
 use line_forms::{Signed, Viewer, WordForm};

@@ -93,7 +93,7 @@ fn stands_after_gives(line: &[u8], token: &Token, after_gives: bool) -> bool
     after_gives || is_spelled(line, token, b"gives")
 }
 
-/// Puts the tokens at these places into the list, or tells the first limit on numbers and names that they pass.
+/// Puts the tokens at these places in place of what the list holds, or tells the first limit on numbers and names that they pass.
 pub(crate) fn read(line: &[u8], places: &[Place], tokens: &mut Vec<Token>) -> Result<(), TokenError>
     requires { HasPlaces line.now 0 places.now }
     ensures ok { OnOk result ((tokens.new.items ≡ map (token_at line.now) places.now) × (first_limit line.now false tokens.new.items ≡ None)) }

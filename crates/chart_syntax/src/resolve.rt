@@ -1,0 +1,105 @@
+ghost use Rattle.std.specs.Prelude.{◌≡◌};
+ghost use Rattle.std.specs.List.{All};
+ghost use Rattle.line_forms.specs.declared.statement.Statement.TheVariants as says;
+ghost use Rattle.line_forms.specs.Limits.{IsSmallAction, IsSmallStatement};
+ghost use Rattle.chart_syntax.specs.Collect.{Answers};
+ghost use Rattle.chart_syntax.specs.Checks.{is_variable, double_check, names_check, resolved_of};
+ghost use Rattle.chart_syntax.specs.Promises.{HasFew};
+
+use crate::action::actions;
+use crate::error::{Kind, LineError, fault};
+use crate::reader::Reader;
+use crate::state::{parent, state};
+use crate::sum::{Scope, comparison};
+use crate::transition::transition;
+use chart_model::{Action, Transition};
+use lin_form::{Comparison, Name};
+use line_forms::{ActionsForm, StateForm, Statement};
+use sqlite_items::Items;
+use std::alloc::Global;
+
+/// What the names of a line stand for, over what is declared.
+#[derive(Drop)]
+pub enum Resolved {
+    /// The line names nothing that is declared.
+    Nothing,
+    Assumption(Comparison),
+    /// The number of the state around a new one, if one is named.
+    Parent(Option<usize>),
+    /// The number of a state, and the actions of its line.
+    Actions(usize, Items<Action>),
+    Transition(Transition),
+}
+
+fn is_variable(reader: &Reader, name: Name) -> bool
+    ensures { result ≡ is_variable reader.now name }
+{
+    reader.inputs.has(name) || reader.outputs.has(name) || reader.memories.has(name)
+}
+
+/// The answer to a new name, by whether it is declared.
+fn new_name(declared: bool) -> Result<Resolved, LineError>
+    ensures { Answers (double_check declared) Resolved.Nothing result }
+{
+    if declared {
+        return Err(fault(Kind::Double));
+    }
+    Ok(Resolved::Nothing)
+}
+
+fn resolve_state(reader: &Reader, form: StateForm) -> Result<Resolved, LineError>
+    ensures { Answers (names_check reader.now (says.State form)) (resolved_of reader.now (says.State form)) result }
+{
+    if reader.states.has(form.name) {
+        return Err(fault(Kind::Double));
+    }
+    match parent(reader, form.parent) {
+        Ok(parent) => Ok(Resolved::Parent(parent)),
+        Err(error) => Err(error),
+    }
+}
+
+/// What the names of a line on entry or exit stand for.
+fn resolve_actions(
+    alloc: Global,
+    reader: &Reader,
+    form: &ActionsForm,
+) -> Result<Resolved, LineError>
+    requires few { HasFew reader.now }
+    requires small { All IsSmallAction form.now.actions }
+    ensures { Answers (names_check reader.now (says.Entry form.now)) (resolved_of reader.now (says.Entry form.now)) result }
+{
+    let number = match state(reader, form.state) {
+        Ok(number) => number,
+        Err(error) => return Err(error),
+    };
+    match actions(alloc, reader, form.actions.as_slice()) {
+        Ok(actions) => Ok(Resolved::Actions(number, actions)),
+        Err(error) => Err(error),
+    }
+}
+
+/// What the names of a line stand for, or the first name from the left that is declared twice, unknown or misused.
+pub fn resolve(alloc: Global, reader: &Reader, said: &Statement) -> Result<Resolved, LineError>
+    requires few { HasFew reader.now }
+    requires small { IsSmallStatement said.now }
+    ensures { Answers (names_check reader.now said.now) (resolved_of reader.now said.now) result }
+{
+    match said {
+        Statement::Chart(_) => Ok(Resolved::Nothing),
+        Statement::Input(form) => new_name(is_variable(reader, form.name)),
+        Statement::Assume(form) => match comparison(alloc, reader, Scope::Assumption, form) {
+            Ok(comparison) => Ok(Resolved::Assumption(comparison)),
+            Err(error) => Err(error),
+        },
+        Statement::Output(form) => new_name(is_variable(reader, form.name)),
+        Statement::Memory(form) => new_name(is_variable(reader, form.name)),
+        Statement::State(form) => resolve_state(reader, *form),
+        Statement::Entry(form) => resolve_actions(alloc, reader, form),
+        Statement::Exit(form) => resolve_actions(alloc, reader, form),
+        Statement::On(form) => match transition(alloc, reader, form) {
+            Ok(transition) => Ok(Resolved::Transition(transition)),
+            Err(error) => Err(error),
+        },
+    }
+}
