@@ -11,3 +11,4 @@ pub mod Whole
 pub mod Same
 pub mod Deciding
 pub mod DecidingWords
+pub mod Adding

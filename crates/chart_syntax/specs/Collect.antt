@@ -1,6 +1,6 @@
 -- Sums collected into forms: each name's coefficients are added up, and so are the constants. The names of a sum, from
 -- left to right, stand for inputs or memories, as the place of the sum allows.
-use Rattle.std.specs.Prelude.{◌≡◌, ℕ, ◌+◌, ℤ, pos, ◌+ℤ◌, ◌-ℤ◌, Bool, true, false, ◌||◌, if◌then◌else◌, List, [], ◌∷◌, length, map, replicate, take, slice_index_or, slice_set, unsigned_abs, Option, Some, None, option_and_then, Result, Ok, Err}
+use Rattle.std.specs.Prelude.{◌≡◌, ℕ, ◌+◌, ℤ, pos, ◌+ℤ◌, ◌-ℤ◌, Bool, true, false, ◌||◌, if◌then◌else◌, ◌==◌, ◌<◌, List, [], ◌∷◌, length, map, replicate, take, slice_index_or, slice_set, unsigned_abs, Option, Some, None, option_and_then, Result, Ok, Err}
 use Rattle.lin_form.specs.declared.form.Form.{Form}
 use Rattle.lin_form.specs.declared.form.Comparison.{Comparison}
 use Rattle.lin_form.specs.Form.{size_of}
@@ -146,3 +146,36 @@ value_form_of s terms = form_of s (collect s scope.Action false nothing terms)
 -- the absolute values of all numbers of a sum
 abbrev pub weight : Sum → ℕ
 weight sum = size_of sum.inputs + size_of sum.memory + unsigned_abs sum.constant
+
+-- what the terms of a sum add up to, name by name
+
+-- the number of a variable in a sum, or the constant
+abbrev pub number_in : Option Variable → Form → ℤ
+number_in None form = form.constant
+number_in (Some (Input i)) form = slice_index_or form.inputs i (pos 0)
+number_in (Some (Memory j)) form = slice_index_or form.memory j (pos 0)
+
+abbrev pub is_same_variable : Option Variable → Option Variable → Bool
+is_same_variable None None = true
+is_same_variable (Some (Input i)) (Some (Input k)) = i == k
+is_same_variable (Some (Memory i)) (Some (Memory k)) = i == k
+is_same_variable a b = false
+
+-- the factors of the terms with this variable, or of those with none, each with its sign, added up
+abbrev pub added_up : Reader → Scope → Bool → Option Variable → List SignedTerm → ℤ
+added_up s scope subtracted v [] = pos 0
+added_up s scope subtracted v (t ∷ terms) = (if is_same_variable (variable_of_term s scope t.term) v then signed (is_negative subtracted t.negated) (factor_of t.term) else pos 0) +ℤ added_up s scope subtracted v terms
+
+-- the variable is one of so many inputs or of the four memories, or none
+abbrev pub IsAmong : ℕ → Option Variable → Type 0
+IsAmong inputs None = Unit {0}
+IsAmong inputs (Some (Input i)) = i < inputs
+IsAmong inputs (Some (Memory j)) = j < 4
+
+-- in the form of a comparison each number is what its terms add up to, those of the right side with the other sign
+abbrev pub IsAddedUp : Reader → Scope → TestForm → Type 0
+IsAddedUp s scope t = (v : Option Variable) → IsAmong (length s.inputs) v → number_in v (comparison_of s scope t).form ≡ added_up s scope false v t.left +ℤ added_up s scope true v t.right
+
+-- and so is each number in the form of an action's value
+abbrev pub IsValueAddedUp : Reader → List SignedTerm → Type 0
+IsValueAddedUp s terms = (v : Option Variable) → IsAmong (length s.inputs) v → number_in v (value_form_of s terms) ≡ added_up s scope.Action false v terms

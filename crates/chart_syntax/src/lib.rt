@@ -25,7 +25,7 @@ mod word;
 
 pub use chart_model::{Action, Chart, Condition, Guard, Memory, Place, State, Transition};
 pub use error::{ChartError, Kind, Which};
-pub use laws::{chart_or_refusal, word_or_refusal};
+pub use laws::{chart_or_refusal, sums_add_up, word_or_refusal};
 pub use line_tokens::{Token, Word};
 pub use scan::tokens;
 pub use text::read_chart;
