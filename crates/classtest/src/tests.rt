@@ -13,6 +13,10 @@ use test_world::{MemShelf, MemSink};
 const CHART: &str =
     "chart 1\ninput v 0 10\noutput alarm 0\nstate Low start\nstate High\non Low when v >= 8 do alarm = 1 go High\non High when v <= 5 do alarm = 0 go Low\n";
 
+/// The same chart where something is assumed of its input.
+const CHART_ASSUMING: &str =
+    "chart 2\ninput v 0 10\nassume v >= 6\noutput alarm 0\nstate Low start\nstate High\non Low when v >= 8 do alarm = 1 go High\non High when v <= 5 do alarm = 0 go Low\n";
+
 /// Charts and words by their names.
 const TEXTS: [(&str, &str); 27] = [
     ("A", CHART),
@@ -22,10 +26,7 @@ const TEXTS: [(&str, &str); 27] = [
     ("eleven", "11\n"),
     ("five", "8\n5\n"),
     ("eight", "8\n6\n"),
-    (
-        "A2",
-        "chart 2\ninput v 0 10\nassume v >= 6\noutput alarm 0\nstate Low start\nstate High\non Low when v >= 8 do alarm = 1 go High\non High when v <= 5 do alarm = 0 go Low\n",
-    ),
+    ("A2", CHART_ASSUMING),
     (
         "cut",
         "chart 1\ninput v 0 10\noutput alarm 0\nstate Low start\nstate High\non Low when v >=\n",
@@ -260,6 +261,14 @@ fn answers_and_refusals(rt: HostRuntime) -> Result<(), Fail> {
         // The same where each pull gives one byte and each put takes one.
         check(&rt, rt.alloc(), line, &TEXTS, smooth(1), expected)?;
     }
+    Ok(())
+}
+
+#[test]
+fn word_against_an_assumption(rt: HostRuntime) -> Result<(), Fail> {
+    let texts = [("A2", CHART_ASSUMING), ("W", "5\n")];
+    let err = "classtest: W:1: box\n";
+    check_no_output(&rt, rt.alloc(), "play A2 W", &texts, 3, err)?;
     Ok(())
 }
 
@@ -514,14 +523,34 @@ const MOST: usize = 262_144;
 
 /// A text of so many bytes more than its front has: line feeds.
 fn long_text(alloc: Global, front: &str, more: usize) -> Result<String, AllocError> {
+    longer(alloc, front, "\n", more)
+}
+
+/// A text with a piece that is put behind its front so often.
+fn longer(alloc: Global, front: &str, piece: &str, more: usize) -> Result<String, AllocError> {
     let text = Pieces {
         front,
-        piece: "\n",
+        piece,
         numbered: false,
         end: "",
         back: "",
     };
     repeated(alloc, text, more)
+}
+
+#[test]
+fn comment_to_the_most_bytes(rt: HostRuntime) -> Result<(), Fail> {
+    let full = longer(rt.alloc(), CHART, "#", MOST - CHART.len())?;
+    assert_eq!(rt; full.len(), MOST);
+    let texts = [("A", full.as_str()), ("W", "3\n8\n6\n5\n")];
+    let (status, out, err) = (0, "0\n1\n1\n0\n", "");
+    let expected = Expected { status, out, err };
+    check(&rt, rt.alloc(), "play A W", &texts, smooth(4_096), expected)?;
+    let long = longer(rt.alloc(), CHART, "#", MOST + 1 - CHART.len())?;
+    let texts = [("A", long.as_str()), ("W", "3\n8\n6\n5\n")];
+    let err = "classtest: A: limit bytes\n";
+    check_no_output(&rt, rt.alloc(), "play A W", &texts, 4, err)?;
+    Ok(())
 }
 
 /// The name of a chart, and the status and the line where nothing earlier is met.
