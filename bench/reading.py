@@ -2,7 +2,7 @@
 """Times the readers of charts and words on texts of 262,144 bytes, and measures their memory: python3 bench/reading.py
 
 The program below is written into a temporary copy of the crate chart_syntax and of those below it, proved and built there
-by `rt run`. For each row it is run without reading, for the memory, and then five times with it; the best time counts.
+by `rt run`. For each row it is run without reading, for the memory, and then thirty times with it; the best time counts.
 It is no part of the gate. It needs the kit's `rt` and Linux.
 """
 
@@ -75,6 +75,7 @@ fn main(rt: HostRuntime) -> io::Result<()> {
 """
 
 MOST_BYTES = 262_144
+RUNS = 30
 SMALL = "chart 1\ninput v 0 9\noutput o 0\nstate S start\n"
 FRONT = "chart 3\ninput v 0 9\ninput w 0 9\noutput o 0\nmemory m 0 9 0\nstate S start\n"
 
@@ -176,7 +177,7 @@ def main() -> None:
             word_file.write_text(word)
             files = (str(chart_file), str(word_file))
             before = facts_of(program, "load", *files)
-            told = [facts_of(program, mode, *files) for _ in range(5)]
+            told = [facts_of(program, mode, *files) for _ in range(RUNS)]
             nanos = min(int(facts["nanos"]) for facts in told)
             memory = max(peak_of(facts) for facts in told) - peak_of(before)
             size = len(chart if mode == "chart" else word)
