@@ -155,20 +155,11 @@ def rows():
     ]
 
 
-CRATES = {
-    "lin_form": "smallvec thiserror",
-    "line_tokens": "lin_form thiserror",
-    "line_forms": "line_tokens lin_form sqlite_items smallvec",
-    "chart_model": "lin_form sqlite_items",
-    "chart_syntax": "chart_model line_forms line_tokens lin_form sqlite_items indexmap thiserror",
-}
-
-
 def main() -> None:
     with tempfile.TemporaryDirectory() as folder:
         top = pathlib.Path(folder)
         uses = "chart_syntax chart_model line_forms line_tokens lin_form sqlite_items"
-        program = built(with_program(top, CRATES, uses, PROGRAM))
+        program = built(with_program(top, uses, PROGRAM))
         print("| text | answer | ms | ns a byte | KiB beside the texts |")
         print("|---|---|---|---|---|")
         for mode, name, chart, word in rows():

@@ -104,12 +104,11 @@ ROWS = [
     ("fall", "the last letter leads each state to the one before it"),
     ("falls", "each letter does so"),
 ]
-CRATES = {"lin_form": "smallvec thiserror", "fsm_core": "lin_form", "reduction": "fsm_core lin_form indexmap"}
 
 
 def main() -> None:
     with tempfile.TemporaryDirectory() as folder:
-        program = built(with_program(pathlib.Path(folder), CRATES, "reduction fsm_core lin_form", PROGRAM))
+        program = built(with_program(pathlib.Path(folder), "reduction fsm_core lin_form", PROGRAM))
         print(f"{'':48} {'states':>6} {'ms':>8} {'peak KiB':>9} {'without':>9}")
         for kind, text in ROWS:
             before = facts_of(program, kind)

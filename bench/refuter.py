@@ -101,7 +101,6 @@ fn main(rt: HostRuntime) -> io::Result<()> {
 }
 """
 
-CRATES = {"lin_form": "smallvec thiserror", "linear_refuter": "lin_form", "witness_pick": "linear_refuter lin_form"}
 GUESS = "crates/linear_refuter/src/guess.rt"
 CLOSER = "None => look_closer(&mut relaxation, part, wants_trim, &mut hint),"
 SHARE = "let mut most = if wants_trim { 0.25 } else { 2.0 };"
@@ -201,7 +200,7 @@ def time_of(program, find_least, ranges, literals):
 def main() -> None:
     with tempfile.TemporaryDirectory() as folder:
         top = pathlib.Path(folder)
-        here = with_program(top, CRATES, "witness_pick linear_refuter lin_form", PROGRAM)
+        here = with_program(top, "witness_pick linear_refuter lin_form", PROGRAM)
         witness_pick = top / "crates" / "witness_pick"
         shutil.copy(witness_pick / "src" / "making.rt", here / "src")
         shutil.copytree(witness_pick / "proofs" / "making", here / "proofs" / "making")

@@ -198,17 +198,12 @@ ROWS = [
     ("deep", "64 states at depth 8, 256 transitions, 64 comparisons a guard: 32 guards a step"),
     ("chain", "the same with all transitions from the active states: 256 guards a step"),
 ]
-CRATES = {
-    "lin_form": "smallvec thiserror",
-    "chart_model": "lin_form sqlite_items",
-    "chart_meaning": "chart_model lin_form sqlite_items",
-}
 
 
 def main() -> None:
     with tempfile.TemporaryDirectory() as folder:
         top = pathlib.Path(folder)
-        here = with_program(top, CRATES, "chart_meaning chart_model lin_form", PROGRAM)
+        here = with_program(top, "chart_meaning chart_model lin_form", PROGRAM)
         meaning = top / "crates" / "chart_meaning" / "src" / "lib.rt"
         meaning.write_text(meaning.read_text().replace("#[cfg(test)]\nmod charts;", "pub mod charts;"))
         (here / "proofs" / "run").mkdir(parents=True)

@@ -5,14 +5,27 @@ import shutil
 import subprocess
 import sys
 
+OURS = pathlib.Path(__file__).resolve().parent.parent
 
-def with_program(top: pathlib.Path, crates: dict[str, str], uses: str, program: str) -> pathlib.Path:
-    """Copies the crates, each with the names of those below it, into a folder, with the program as the crate `timing`
-    above those that it uses. Gives the folder of that crate."""
-    ours = pathlib.Path(__file__).resolve().parent.parent / "crates"
+
+def lines_of(uses: str) -> dict[str, str]:
+    """What each of these crates and of those below them stands on, lowest first, as crates.txt of the repository says."""
+    lines = (OURS / "crates.txt").read_text().splitlines()
+    stands = dict(line.split(":", 1) for line in lines if not line.startswith("#"))
+    wanted = set(uses.split())
+    for name in reversed(stands):
+        if name in wanted:
+            wanted.update(stands[name].split())
+    return {name: below.strip() for name, below in stands.items() if name in wanted}
+
+
+def with_program(top: pathlib.Path, uses: str, program: str) -> pathlib.Path:
+    """Copies the crates that a program uses, and those below them, into a folder, with the program as the crate `timing`
+    above them. Gives the folder of that crate."""
+    crates = lines_of(uses)
     for name in crates:
         for part in ("src", "specs", "proofs"):
-            shutil.copytree(ours / name / part, top / "crates" / name / part)
+            shutil.copytree(OURS / "crates" / name / part, top / "crates" / name / part)
     here = top / "crates" / "timing"
     (here / "src").mkdir(parents=True)
     (here / "src" / "main.rt").write_text(program)

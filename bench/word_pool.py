@@ -131,7 +131,7 @@ ROWS = [
 
 def main() -> None:
     with tempfile.TemporaryDirectory() as folder:
-        program = built(with_program(pathlib.Path(folder), {"word_pool": ""}, "word_pool", PROGRAM))
+        program = built(with_program(pathlib.Path(folder), "word_pool", PROGRAM))
         print(f"{'':52} {'words':>9} {'ns a call':>9} {'peak KiB':>8} {'bytes a word':>12}")
         base = 0
         for mode, calls, text in ROWS:
