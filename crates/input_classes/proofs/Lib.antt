@@ -1,0 +1,4 @@
+pub mod Finding
+pub mod Witnesses
+pub mod Few
+pub mod CallerLemmas

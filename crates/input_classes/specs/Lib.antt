@@ -1,0 +1,3 @@
+pub mod VectorSet
+pub mod Order
+pub mod Partition
