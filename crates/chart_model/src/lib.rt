@@ -3,6 +3,7 @@
 
 mod action;
 mod chart;
+mod cuts;
 mod guard;
 mod state;
 #[cfg(test)]
@@ -11,6 +12,7 @@ mod transition;
 
 pub use action::{Action, Place};
 pub use chart::Chart;
+pub use cuts::Cuts;
 pub use guard::{Condition, Guard, guard_holds};
 pub use state::{Memory, State};
 pub use transition::Transition;

@@ -1,5 +1,6 @@
 -- Atoms, which are inequalities in normal form, and literals over them.
 use Rattle.std.specs.Prelude.{◌≡◌, ⊤, ℕ, ◌≤◌, ℤ, Bool, List, length, Option, None, Some, IfSome, slice_get}
+use Rattle.std.specs.List.{All}
 use Rattle.lin_form.specs.Inequality.{Inequality, says, put_in, first_of, second_of, AreZero, leads_positive, IsNormalForm}
 use Rattle.lin_form.specs.declared.atom.Atom.{Atom}
 use Rattle.lin_form.specs.declared.literal.Literal.{Literal}
@@ -17,6 +18,10 @@ atom_truth atom vector = says (inequality_of atom) vector
 -- a literal is as it says on a vector
 abbrev pub IsAsSaid : Literal → List ℤ → Type 0
 IsAsSaid literal vector = atom_truth literal.atom vector ≡ literal.holds
+
+-- each literal is as it says on a vector
+abbrev pub AreAsSaid : List Literal → List ℤ → Type 0
+AreAsSaid literals vector = All (λ literal. IsAsSaid literal vector) literals
 
 -- each literal of a claim is as it says on a vector
 pub record IsClaimed (claim : Claim) (vector : List ℤ) : Type 0 where

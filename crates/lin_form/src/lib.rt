@@ -35,5 +35,5 @@ pub use names::Names;
 pub use normal::{FormError, as_literals, normalise};
 pub use reply::Reply;
 pub use signature::Signature;
-pub use truth::atom_holds;
+pub use truth::{all_as_said, atom_holds};
 pub use vector::Vector;
