@@ -1,7 +1,7 @@
 -- Lemmas for the crates above: answers part by part, words of witnesses, numbers of states, first failures, and the
 -- theorem of the W-method, also with own marks for each word of the cover.
 pub use Rattle.subject.proofs.Words.{answer_from-append, state_after-append, length-answer_from, after-state, length-after, answer-after, alike-goes_on, same_steps-act}
-pub use Rattle.subject.proofs.Witnesses.{IsWitnessed, witnessed, witness-within, witness-member, members-within, words-within, word-within, word-member, witness-acts, word-acts, answers-witnesses}
+pub use Rattle.subject.proofs.Witnesses.{witness-acts, word-acts, answers-witnesses}
 pub use Rattle.subject.proofs.Lifting.{stable, from_mere, by_classes, equal_from, lead_alike_from}
 pub use Rattle.subject.proofs.Ranks.{alike-in_witnesses, few_apart, rank_within, more_states, most_over_witnesses, most_from_witnesses, rank_from_witnesses}
 pub use Rattle.subject.proofs.Failures.{passes_or_fails, excludes, one_failure}

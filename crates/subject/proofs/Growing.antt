@@ -1,27 +1,14 @@
 -- Words that lead pairwise differently, collected until each step from one of them leads alike with one of them.
-use Rattle.std.proofs.Common.{◌≡◌, ℕ, zero, suc, ◌+◌, ◌<◌, ◌≤◌, ◌⊎◌, inl, inr, ℤ, List, [], ◌∷◌, ◌++◌, length, get_or, Contains, Some, sym, ap, subst, ◌∙◌, arith}
-use Rattle.std.specs.Prelude.{slice_get}
+use Rattle.std.proofs.Common.{◌≡◌, ℕ, zero, suc, ◌+◌, ◌<◌, ◌≤◌, inl, inr, ℤ, List, [], ◌∷◌, ◌++◌, length, get_or, Contains, sym, ap, subst, ◌∙◌, arith}
 use Rattle.std.specs.List.{All, AllPairs}
 use Rattle.std.proofs.lemmas.List.{append-nil, append_assoc, length-append}
 use Rattle.std.proofs.lemmas.List.Elements.{All-nil, All-append, All-push, All-contains, All-contains_itself}
 use Rattle.std.proofs.lemmas.List.Kept.{AllPairs-cons}
-use Rattle.std.proofs.lemmas.Option.{slice_get_within, slice_get-get_or, same_Some}
 use Rattle.subject.specs.Alike.{LeadDifferently, HasAtMost}
 use Rattle.subject.specs.Meaning.{Meaning}
-use Rattle.subject.specs.VectorSet.{VectorSet, IsIn, Word, IsWordOf}
+use Rattle.input_classes.specs.VectorSet.{VectorSet, IsIn, Word, IsWordOf}
+use Rattle.input_classes.proofs.CallerLemmas.{contains_cases, contains_later}
 use Rattle.subject.proofs.Ranks.{few_apart}
-
-contains_later : {X : Type 0} (x y : X) (xs : List X) → Contains xs y → Contains (x ∷ xs) y
-contains_later x y xs h = (suc h.0, (let b = h.1 in omega arith), h.2)
-
-contains_cases : {X : Type 0} (x y : X) (xs : List X) → Contains (x ∷ xs) y → (x ≡ y) ⊎ Contains xs y
-contains_cases x y xs (zero, b, e) = inl e
-contains_cases x y xs (suc k, b, e) = inr (k, omega arith, e)
-
-pub contains_at : {X : Type 0} (xs : List X) (k : ℕ) (x : X) → slice_get xs k ≡ Some x → Contains xs x
-contains_at xs k x h =
-    let below = slice_get_within xs k x h in
-    (k, below, same_Some (get_or xs k x) x (sym (slice_get-get_or xs k x below) ∙ h))
 
 -- a word of the cover and a tail, so short that with the cover it has at most `depth` vectors
 pub record IsProduct (s : VectorSet) (cover : List Word) (depth : ℕ) (e : Word) : Type 0 where

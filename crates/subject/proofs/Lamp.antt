@@ -15,7 +15,7 @@ use Rattle.subject.specs.FiniteMap.{next_of, plan_of_map}
 use Rattle.subject.specs.Lamp.{entry, lamp, pressed}
 use Rattle.subject.specs.Method.{AgreeOn, IsTested}
 use Rattle.subject.specs.Meaning.{Meaning, answer_from, state_after}
-use Rattle.subject.specs.VectorSet.{VectorSet, IsIn, Word, IsWordOf, box_of}
+use Rattle.input_classes.specs.VectorSet.{VectorSet, IsIn, Word, IsWordOf, box_of}
 use Rattle.subject.proofs.Words.{after-state, same_steps-act}
 
 -- the first entry for position 1 does what the first for position 2 does
@@ -71,14 +71,14 @@ module _ (sg : Signature) (ranged : ranges_of sg.inputs ≡ (pos 0, pos 2) ∷ [
   s = box_of sg []
 
   in_box : (x : ℕ) → x ≤ 2 → IsIn s (pressed x)
-  in_box x h = (subst (λ ranges. IsInRanges ranges (pressed x)) (sym ranged) ((omega (arith, ints), omega (arith, ints)), tt), All-nil _)
+  in_box x h = record { inside = subst (λ ranges. IsInRanges ranges (pressed x)) (sym ranged) ((omega (arith, ints), omega (arith, ints)), tt); said = All-nil _ }
 
   word_of : (x : ℕ) → x ≤ 2 → IsWordOf s (pressed x ∷ [])
   word_of x h = All-cons (IsIn s) (pressed x) [] (in_box x h) (All-nil (IsIn s))
 
   -- 1 acts like 2
   pub presses_alike : ActsLike s m (pressed 1) (pressed 2)
-  presses_alike = same_steps-act m s (pressed 1) (pressed 2) (λ z h. h.0) (λ t _. (same_next _ _ t, same_reply _ _))
+  presses_alike = same_steps-act m s (pressed 1) (pressed 2) (λ z h. h.inside) (λ t _. (same_next _ _ t, same_reply _ _))
 
   -- 0 does not act like 1
   pub presses_apart : ActsLike s m (pressed 0) (pressed 1) → ⊥
@@ -103,8 +103,8 @@ module _ (sg : Signature) (ranged : ranges_of sg.inputs ≡ (pos 0, pos 2) ∷ [
 
   listed : (w : Word) → IsEither (state_after m 0 w) → IsListed s m ways w
   unfolding IsEither
-  listed w (inl e) = record { place = 0; like = []; there = refl; alike = alike_at w [] e }
-  listed w (inr e) = record { place = 1; like = pressed 1 ∷ []; there = refl; alike = alike_at w (pressed 1 ∷ []) e }
+  listed w (inl e) = record { like = []; there = (0, omega arith, refl); alike = alike_at w [] e }
+  listed w (inr e) = record { like = pressed 1 ∷ []; there = (1, omega arith, refl); alike = alike_at w (pressed 1 ∷ []) e }
 
   two_at_most : HasAtMost s m 2
   unfolding IsEither

@@ -8,11 +8,13 @@ use Rattle.std.proofs.lemmas.List.{append_assoc}
 use Rattle.std.proofs.lemmas.List.Elements.{All-head, All-tail, All-append, All-push, All-nil, All-contains}
 use Rattle.std.proofs.lemmas.Slice.Eq.{slice_eq-Decides}
 use Rattle.subject.specs.Alike.{Equal, LeadAlike, ActsLike}
-use Rattle.subject.specs.Domain.{ActsAsClass, ActByClasses}
+use Rattle.subject.specs.Domain.{HasLikeClass, ActByClasses}
 use Rattle.subject.specs.Meaning.{Meaning, answer, after}
-use Rattle.subject.specs.Partition.{Class, Partition, IsInClass, witnesses, Covers, ActAlike}
-use Rattle.subject.specs.VectorSet.{VectorSet, Members, IsIn, Word, IsWordOf}
-use Rattle.subject.proofs.Witnesses.{contains_map, witnessed, words-within}
+use Rattle.input_classes.specs.declared.class.Class.{Class}
+use Rattle.input_classes.specs.Partition.{Partition, IsInClass, witnesses, Covers}
+use Rattle.subject.specs.Alike.{MembersActAlike}
+use Rattle.input_classes.specs.VectorSet.{VectorSet, Members, IsIn, Word, IsWordOf}
+use Rattle.input_classes.proofs.CallerLemmas.{contains_map, witnessed, words-within}
 
 decided : (x y : List (List ℤ)) (b : Bool) → Decides b (x ≡ y) → ((x ≡ y → ⊥) → ⊥) → x ≡ y
 decided x y true d h = d.0 refl
@@ -26,7 +28,7 @@ pub from_mere : {A : Type 0} (x y : List (List ℤ)) → ∥ A ∥₁ → (A →
 from_mere x y h f = stable x y (λ never. ∥∥₁_elim h (λ p q. absurd p) (λ a. never (f a)))
 
 -- where members of each class act alike, every vector has a class that acts like it
-pub by_classes : {S : Type 0} (s : VectorSet) (r : Partition) (m : Meaning S) → Covers s r → ActAlike s r m → ActByClasses s r m m
+pub by_classes : {S : Type 0} (s : VectorSet) (r : Partition) (m : Meaning S) → Covers s r → MembersActAlike s r m → ActByClasses s r m m
 by_classes s r m covers alike x h =
     let w = witnessed s r covers x h in
     let acts = λ (y : List ℤ) (k : IsInClass s r w.one y). alike w.one w.there y x k w.member in
@@ -39,10 +41,10 @@ after-swap s i a z v x y acts p q =
     ∙ ap (drop (length a)) (sym (ap (answer i) (append_assoc a z (y ∷ v))) ∙ acts (a ++ z) v p q ∙ ap (answer i) (append_assoc a z (x ∷ v)))
 
 module _ {S T : Type 0} (s : VectorSet) (r : Partition) (m : Meaning S) (i : Meaning T) (covers : Covers s r) (classes : ActByClasses s r m i) where
-  witness_in : (x : List ℤ) (a : ActsAsClass s r m i x) → IsInClass s r a.one a.one.witness
+  witness_in : (x : List ℤ) (a : HasLikeClass s r m i x) → IsInClass s r a.one a.one.witness
   witness_in x a = All-contains (λ c. IsInClass s r c c.witness) r.classes a.one covers.witnessed a.there
 
-  witness_is : (x : List ℤ) (a : ActsAsClass s r m i x) → Contains (witnesses r) a.one.witness
+  witness_is : (x : List ℤ) (a : HasLikeClass s r m i x) → Contains (witnesses r) a.one.witness
   witness_is x a = contains_map (λ (c : Class). c.witness) r.classes a.one a.there
 
   -- plans that answer words of witnesses alike answer alike

@@ -12,11 +12,11 @@ use Rattle.subject.specs.Method.{AgreeOn, AreCoverAndMarks, HaveProducts, IsAnsw
 use Rattle.subject.specs.Domain.{Complete, Inside, box}
 use Rattle.subject.specs.FiniteMap.{plan_of_map}
 use Rattle.subject.specs.Tests.{AnswersTest, Passes, TestCase}
-use Rattle.subject.specs.Partition.{Partition, Covers, witnesses}
-use Rattle.subject.specs.VectorSet.{VectorSet, Members, IsIn, Word, IsWordOf}
-use Rattle.subject.proofs.Growing.{IsSeen, IsClosed, contains_at, product_word, seen_start, grow, few_seen}
+use Rattle.input_classes.specs.Partition.{Partition, Covers, witnesses}
+use Rattle.input_classes.specs.VectorSet.{VectorSet, Members, IsIn, Word, IsWordOf}
+use Rattle.subject.proofs.Growing.{IsSeen, IsClosed, product_word, seen_start, grow, few_seen}
 use Rattle.subject.proofs.Lifting.{stable, equal_from}
-use Rattle.subject.proofs.Witnesses.{words-within}
+use Rattle.input_classes.proofs.CallerLemmas.{words-within}
 use Rattle.subject.proofs.Words.{after-state, answer-after, length-answer_from, alike-goes_on, state_after-push}
 
 -- the answer to the front of a word
@@ -73,7 +73,7 @@ module _ {S T : Type 0} (s : VectorSet) (m : Meaning S) (i : Meaning T) (cover m
 
   -- the word of the cover that a word leads alike with
   listed_cover : (w : Word) (c : IsListed s m cover w) → Contains cover c.like
-  listed_cover w c = contains_at cover c.place c.like c.there
+  listed_cover w c = c.there
 
   module _ (final : List Word) (seen : IsSeen s i cover h.cover_words final) (closed : IsClosed s i cover h.cover_words final) (short : length final ≤ length cover + d) where
     -- all marks after a word that is seen
@@ -195,13 +195,13 @@ equal_inside m r n i cover marks covers few inside tested w h =
     equal_from (box m r) r m i covers inside.classes equal [] w (All-nil (Contains (witnesses r))) h
 
 -- a plan that passes answers each product as the model does
-passed_products : {S T : Type 0} (s large : VectorSet) (m : Meaning S) (i : Meaning T) (cover marks : List Word) (d : ℕ) (tests : List TestCase) → HaveProducts s cover marks d tests → All (IsAnswered large m) tests → Passes i tests
+passed_products : {S T : Type 0} (s large : VectorSet) (m : Meaning S) (i : Meaning T) (cover marks : List Word) (d : ℕ) (tests : List TestCase) → HaveProducts s cover marks d tests → All (IsAnswered large m) tests → Passes (answer i) tests
     → (p z w : Word) → Contains cover p → IsWordOf s z → length z ≤ d + 1 → Contains marks w → answer i (p ++ (z ++ w)) ≡ answer m (p ++ (z ++ w))
 passed_products s large m i cover marks d tests products answered passes p z w cover_word word short mark =
     let u = p ++ (z ++ w) in
     stable (answer i u) (answer m u) (λ differ. products p z w cover_word word short mark (λ f.
     let expected = (All-contains (IsAnswered large m) tests f.test answered f.there).expected in
-    let same = All-contains (AnswersTest i) tests f.test passes f.there ∙ expected in
+    let same = All-contains (AnswersTest (answer i)) tests f.test passes f.there ∙ expected in
     differ (sym (answer-front i u f.rest) ∙ ap (take (length u)) (sym (ap (answer i) f.is) ∙ same ∙ ap (answer m) f.is) ∙ answer-front m u f.rest)))
 
 -- tests that have the products of a cover and marks over the witnesses are complete

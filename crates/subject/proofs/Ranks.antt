@@ -1,21 +1,22 @@
 -- Numbers of states: the rank is least, and words of witnesses count the same states.
-use Rattle.std.proofs.Common.{◌≡◌, ◌≢◌, ℕ, zero, suc, ◌<◌, ◌≤◌, inl, inr, List, [], ◌∷◌, ◌++◌, length, map, drop, get_or, Some, refl, sym, ap, subst, ◌∙◌, arith}
+use Rattle.std.proofs.Common.{◌≡◌, ◌≢◌, ℕ, zero, suc, ◌<◌, ◌≤◌, inl, inr, List, [], ◌∷◌, ◌++◌, length, map, drop, get_or, refl, sym, ap, subst, ◌∙◌, arith}
 use Rattle.std.specs.List.{All, AllZip, AllPairs}
 use Rattle.std.proofs.Math.Logic.{∥∥₁_elim, ∥∥₁_map, ∥∥₁_map₂}
 use Rattle.std.proofs.lemmas.Bool.{cases_lt}
 use Rattle.std.proofs.lemmas.Bool.Decides.{Decides-eqb}
-use Rattle.std.proofs.lemmas.List.{length-map, get_or-map}
+use Rattle.std.proofs.lemmas.List.{length-map, get_or-map, get_or_default}
 use Rattle.std.proofs.lemmas.List.Elements.{All-nil, All-cons, All-head, All-tail, All-map, All-weaker, All-contains}
 use Rattle.std.proofs.lemmas.Map.Made.{IsDistinct-from_AllPairs}
 use Rattle.std.proofs.lemmas.Map.Steps.{length-le_from_distinct_below}
 use Rattle.std.proofs.lemmas.Map.Views.{Contains-from_any}
-use Rattle.std.proofs.lemmas.Option.{slice_get_within, slice_get-get_or, same_Some}
 use Rattle.subject.specs.Alike.{LeadAlike, LeadDifferently, IsListed, HasAtMost, HasRank}
 use Rattle.subject.specs.Meaning.{Meaning, answer, after}
-use Rattle.subject.specs.Partition.{Partition, witnesses, in_witnesses, Covers, ActAlike}
-use Rattle.subject.specs.VectorSet.{VectorSet, Members, IsIn, Word, IsWordOf}
+use Rattle.input_classes.specs.Partition.{Partition, witnesses, in_witnesses, Covers}
+use Rattle.subject.specs.Alike.{MembersActAlike}
+use Rattle.input_classes.specs.VectorSet.{VectorSet, Members, IsIn, Word, IsWordOf}
 use Rattle.subject.proofs.Lifting.{by_classes, lead_alike_from}
-use Rattle.subject.proofs.Witnesses.{word-within, word-member, words-within, word-acts}
+use Rattle.input_classes.proofs.CallerLemmas.{contains_map, word-within, word-member, words-within}
+use Rattle.subject.proofs.Witnesses.{word-acts}
 
 -- lists of two types, place by place
 length-zipped : {X Y : Type 0} (R : X → Y → Type 0) (xs : List X) (ys : List Y) → AllZip R xs ys → length xs ≡ length ys
@@ -41,17 +42,16 @@ module _ {S : Type 0} (m : Meaning S) where
     places : List ℕ
     each : AllZip (IsAt s words) ws places
 
-  at_place : (s : VectorSet) (words : List Word) (w : Word) (h : IsListed s m words w) → IsAt s words w h.place
+  at_place : (s : VectorSet) (words : List Word) (w : Word) (h : IsListed s m words w) → IsAt s words w h.there.0
   at_place s words w h =
-      let below = slice_get_within words h.place h.like h.there in
-      let is = same_Some (get_or words h.place []) h.like (sym (slice_get-get_or words h.place [] below) ∙ h.there) in
-      record { below = below; alike = λ v k. h.alike v k ∙ ap (λ u. after m u v) (sym is) }
+      let is = get_or_default words h.there.0 [] h.like h.there.1 ∙ h.there.2 in
+      record { below = h.there.1; alike = λ v k. h.alike v k ∙ ap (λ u. after m u v) (sym is) }
 
   places_of : (s : VectorSet) (words ws : List Word) → All (λ w. ∥ IsListed s m words w ∥₁) ws → ∥ HasPlaces s words ws ∥₁
   places_of s words [] h = ∣ record { places = []; each = tt } ∣₁
   places_of s words (w ∷ ws) h =
       ∥∥₁_map₂ (All-head (λ w. ∥ IsListed s m words w ∥₁) w ws h) (places_of s words ws (All-tail (λ w. ∥ IsListed s m words w ∥₁) w ws h))
-      (λ one more. record { places = one.place ∷ more.places; each = (at_place s words w one, more.each) })
+      (λ one more. record { places = one.there.0 ∷ more.places; each = (at_place s words w one, more.each) })
 
   places_below : (s : VectorSet) (words ws : List Word) (ps : List ℕ) → AllZip (IsAt s words) ws ps → All (λ p. p < length words) ps
   places_below s words [] [] h = All-nil (λ p. p < length words)
@@ -99,7 +99,7 @@ module _ {S : Type 0} (m : Meaning S) where
   pub more_states : (s : VectorSet) (n k : ℕ) → HasAtMost s m n → n ≤ k → HasAtMost s m k
   more_states s n k h le = record { words = h.words; are_words = h.are_words; few = (let few = h.few in omega arith); each = h.each }
 
-  module _ (s : VectorSet) (r : Partition) (covers : Covers s r) (alike : ActAlike s r m) where
+  module _ (s : VectorSet) (r : Partition) (covers : Covers s r) (alike : MembersActAlike s r m) where
     -- a word leads alike with its word of witnesses
     pub alike-in_witnesses : (w : Word) → IsWordOf s w → LeadAlike s m w (in_witnesses r w)
     alike-in_witnesses w h v k =
@@ -113,13 +113,11 @@ module _ {S : Type 0} (m : Meaning S) where
       are_words = All-map (IsWordOf (Members (witnesses r))) (in_witnesses r) h.words (All-weaker (IsWordOf s) _ (word-member s r covers) h.words h.are_words);
       few = rw length-map h.few;
       each = λ w k. ∥∥₁_map (h.each w (words-within s r covers w k)) (λ a.
-          let below = slice_get_within h.words a.place a.like a.there in
-          let is = same_Some (get_or h.words a.place []) a.like (sym (slice_get-get_or h.words a.place [] below) ∙ a.there) in
+          let is_word = All-contains (IsWordOf s) h.words a.like h.are_words a.there in
           record {
-            place = a.place;
             like = in_witnesses r a.like;
-            there = slice_get-get_or (map (in_witnesses r) h.words) a.place [] (rw length-map below) ∙ ap Some (get_or-map (in_witnesses r) h.words a.place [] [] below ∙ ap (in_witnesses r) is);
-            alike = λ v q. a.alike v (words-within s r covers v q) ∙ alike-in_witnesses a.like (subst (IsWordOf s) is (h.are_words a.place [] below)) v (words-within s r covers v q);
+            there = contains_map (in_witnesses r) h.words a.like a.there;
+            alike = λ v q. a.alike v (words-within s r covers v q) ∙ alike-in_witnesses a.like is_word v (words-within s r covers v q);
           });
     }
 
@@ -130,11 +128,9 @@ module _ {S : Type 0} (m : Meaning S) where
       are_words = All-weaker (IsWordOf (Members (witnesses r))) (IsWordOf s) (words-within s r covers) h.words h.are_words;
       few = h.few;
       each = λ w k. ∥∥₁_map (h.each (in_witnesses r w) (word-member s r covers w k)) (λ a.
-          let below = slice_get_within h.words a.place a.like a.there in
-          let is = same_Some (get_or h.words a.place []) a.like (sym (slice_get-get_or h.words a.place [] below) ∙ a.there) in
-          let like = words-within s r covers a.like (subst (IsWordOf (Members (witnesses r))) is (h.are_words a.place [] below)) in
+          let like = words-within s r covers a.like (All-contains (IsWordOf (Members (witnesses r))) h.words a.like h.are_words a.there) in
           let lifted = lead_alike_from s r m m covers (by_classes s r m covers alike) (in_witnesses r w) a.like (word-within s r covers w k) like a.alike in
-          record { place = a.place; like = a.like; there = a.there; alike = λ v q. alike-in_witnesses w k v q ∙ lifted v q });
+          record { like = a.like; there = a.there; alike = λ v q. alike-in_witnesses w k v q ∙ lifted v q });
     }
 
     -- the rank is the same

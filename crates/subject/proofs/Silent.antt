@@ -13,10 +13,11 @@ use Rattle.subject.specs.Domain.{Complete, Inside, box}
 use Rattle.subject.specs.FiniteMap.{FiniteMap, plan_of_map}
 use Rattle.subject.specs.Lamp.{entry, pressed, one_class, one_press}
 use Rattle.subject.specs.Method.{AreCoverAndMarks, HaveProducts, IsAnswered, IsFront}
-use Rattle.subject.specs.Partition.{Class, Covers, IsInClass, witnesses}
+use Rattle.input_classes.specs.declared.class.Class.{Class}
+use Rattle.input_classes.specs.Partition.{Covers, IsInClass, witnesses}
 use Rattle.subject.specs.Meaning.{Meaning, answer_from, answer, state_after}
 use Rattle.subject.specs.Tests.{AnswersTest}
-use Rattle.subject.specs.VectorSet.{VectorSet, Members, IsIn, Word, IsWordOf}
+use Rattle.input_classes.specs.VectorSet.{VectorSet, Members, IsIn, Word, IsWordOf}
 use Rattle.subject.proofs.Method.{tests_complete}
 use Rattle.subject.proofs.Words.{after-state}
 
@@ -55,10 +56,10 @@ module _ (sg : Signature) (ranged : ranges_of sg.inputs ≡ (pos 0, pos 0) ∷ [
   s = box m one_class
 
   only_in : (x : List ℤ) → IsIn s x → x ≡ pressed 0
-  only_in x h = only x (subst (λ ranges. IsInRanges ranges x) ranged h.0)
+  only_in x h = only x (subst (λ ranges. IsInRanges ranges x) ranged h.inside)
 
   press : IsIn s (pressed 0)
-  press = (subst (λ ranges. IsInRanges ranges (pressed 0)) (sym ranged) ((omega (arith, ints), omega (arith, ints)), tt), All-nil _)
+  press = record { inside = subst (λ ranges. IsInRanges ranges (pressed 0)) (sym ranged) ((omega (arith, ints), omega (arith, ints)), tt); said = All-nil _ }
 
   press_word : IsWordOf s (pressed 0 ∷ [])
   press_word = All-cons (IsIn s) (pressed 0) [] press (All-nil (IsIn s))
@@ -84,9 +85,8 @@ module _ (sg : Signature) (ranged : ranges_of sg.inputs ≡ (pos 0, pos 0) ∷ [
     mark_words = only_empty;
     some_mark = omega arith;
     whole = λ w h never. never (record {
-      place = 0;
       like = [];
-      there = refl;
+      there = (0, omega arith, refl);
       alike = λ v k. after-state m w v ∙ ap (λ t. answer_from m t v) (silent_stays 0 w) ∙ sym (after-state m [] v);
     });
     apart = λ a b d less below agree. let no : ⊥ = omega arith in no;
@@ -120,7 +120,7 @@ module _ (sg : Signature) (ranged : ranges_of sg.inputs ≡ (pos 0, pos 0) ∷ [
       words = [] ∷ [];
       are_words = All-cons (IsWordOf s) [] [] (All-nil (IsIn s)) (All-nil (IsWordOf s));
       few = omega arith;
-      each = λ w h. ∣ record { place = 0; like = []; there = refl; alike = λ v k. after-state (plan_of_map loud) w v ∙ ap (λ t. answer_from (plan_of_map loud) t v) (stays_at w) ∙ sym (after-state (plan_of_map loud) [] v) } ∣₁;
+      each = λ w h. ∣ record { like = []; there = (0, omega arith, refl); alike = λ v k. after-state (plan_of_map loud) w v ∙ ap (λ t. answer_from (plan_of_map loud) t v) (stays_at w) ∙ sym (after-state (plan_of_map loud) [] v) } ∣₁;
     };
     classes = λ x h. ∣ record {
       one = record { pattern = []; witness = pressed 0 };
@@ -132,4 +132,4 @@ module _ (sg : Signature) (ranged : ranges_of sg.inputs ≡ (pos 0, pos 0) ∷ [
 
   -- no test is too few
   pub too_few : Complete m one_class 1 [] → ⊥
-  too_few complete = loud_differs ((complete loud loud_is_inside).0 (All-nil (AnswersTest (plan_of_map loud))) (pressed 0 ∷ []) press_word)
+  too_few complete = loud_differs ((complete loud loud_is_inside).0 (All-nil (AnswersTest (answer (plan_of_map loud)))) (pressed 0 ∷ []) press_word)

@@ -6,7 +6,7 @@ use Rattle.std.proofs.lemmas.List.Elements.{All-cons, All-weaker}
 use Rattle.lin_form.specs.Signature.{IsInInputRanges}
 use Rattle.subject.specs.Alike.{LeadAlike, ActsLike}
 use Rattle.subject.specs.Meaning.{Meaning, state_after, answer_from, answer, after, IsReached}
-use Rattle.subject.specs.VectorSet.{VectorSet, IsIn, Word}
+use Rattle.input_classes.specs.VectorSet.{VectorSet, IsIn, Word}
 
 module _ {S : Type 0} (m : Meaning S) where
   -- the replies to u and then v

@@ -4,10 +4,11 @@ use Rattle.lin_form.specs.declared.signature.Signature.{Signature}
 use Rattle.lin_form.specs.Signature.{ranges_of}
 use Rattle.subject.specs.Alike.{Equal, HasAtMost, ActsLike}
 use Rattle.subject.specs.FiniteMap.{FiniteMap, plan_of_map}
-use Rattle.subject.specs.Meaning.{Meaning}
-use Rattle.subject.specs.Partition.{Class, Partition, IsInClass}
+use Rattle.subject.specs.Meaning.{Meaning, answer}
+use Rattle.input_classes.specs.declared.class.Class.{Class}
+use Rattle.input_classes.specs.Partition.{Partition, IsInClass}
 use Rattle.subject.specs.Tests.{TestCase, Passes}
-use Rattle.subject.specs.VectorSet.{VectorSet, IsIn, box_of}
+use Rattle.input_classes.specs.VectorSet.{VectorSet, IsIn, box_of}
 
 -- a signature fits that of a model: the same number of inputs, each with the same name and range, and the same number
 -- of outputs with the same names
@@ -17,7 +18,7 @@ pub record IsFitting (model other : Signature) : Type 0 where
   pub outputs : other.outputs ≡ model.outputs
 
 -- a class that has only members that act like x in both plans
-pub record ActsAsClass {S T : Type 0} (s : VectorSet) (r : Partition) (m : Meaning S) (i : Meaning T) (x : List ℤ) : Type 0 where
+pub record HasLikeClass {S T : Type 0} (s : VectorSet) (r : Partition) (m : Meaning S) (i : Meaning T) (x : List ℤ) : Type 0 where
   pub one : Class
   pub there : Contains r.classes one
   pub in_model : (y : List ℤ) → IsInClass s r one y → ActsLike s m y x
@@ -25,7 +26,7 @@ pub record ActsAsClass {S T : Type 0} (s : VectorSet) (r : Partition) (m : Meani
 
 -- for each vector of the set there is such a class
 abbrev pub ActByClasses : {S T : Type 0} → VectorSet → Partition → Meaning S → Meaning T → Type 0
-ActByClasses s r m i = (x : List ℤ) → IsIn s x → ∥ ActsAsClass s r m i x ∥₁
+ActByClasses s r m i = (x : List ℤ) → IsIn s x → ∥ HasLikeClass s r m i x ∥₁
 
 -- the box of the model m with the partition r
 abbrev pub box : {S : Type 0} → Meaning S → Partition → VectorSet
@@ -39,4 +40,4 @@ pub record Inside {S T : Type 0} (m : Meaning S) (r : Partition) (n : ℕ) (i : 
 
 -- the tests are complete: every finite map inside passes exactly when it answers every word of the box as the model does
 abbrev pub Complete : {S : Type 0} → Meaning S → Partition → ℕ → List TestCase → Type 0
-Complete m r n tests = (f : FiniteMap) → Inside m r n (plan_of_map f) → (Passes (plan_of_map f) tests ↔ Equal (box m r) (plan_of_map f) m)
+Complete m r n tests = (f : FiniteMap) → Inside m r n (plan_of_map f) → (Passes (answer (plan_of_map f)) tests ↔ Equal (box m r) (plan_of_map f) m)

@@ -2,7 +2,7 @@
 -- turn the lamp on and off, and 0 does nothing.
 use Rattle.std.specs.Prelude.{ℕ, ℤ, pos, List, [], ◌∷◌}
 use Rattle.subject.specs.declared.case.Case.{Case}
-use Rattle.subject.specs.Partition.{Partition}
+use Rattle.input_classes.specs.Partition.{Partition}
 use Rattle.subject.specs.Tests.{TestCase}
 
 -- an entry with vectors of one number

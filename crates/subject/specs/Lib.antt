@@ -2,8 +2,8 @@ pub mod VectorSet
 pub mod Meaning
 pub mod Alike
 pub mod FiniteMap
-pub mod Partition
 pub mod Tests
+pub mod Suite
 pub mod Domain
 pub mod Method
 pub mod Lamp

@@ -3,7 +3,7 @@ use Rattle.std.specs.Prelude.{◌≡◌, ℤ, List, [], ◌∷◌, ◌++◌, len
 use Rattle.std.specs.List.{All}
 use Rattle.lin_form.specs.declared.signature.Signature.{Signature}
 use Rattle.lin_form.specs.Signature.{IsInInputRanges}
-use Rattle.subject.specs.VectorSet.{Word}
+use Rattle.input_classes.specs.VectorSet.{Word}
 
 -- a signature, a start, and for each state and vector of the signature's ranges a next state and a reply
 pub record Meaning (S : Type 0) : Type 0 where

@@ -4,7 +4,7 @@ use Rattle.std.specs.List.{All, AllPairs}
 use Rattle.subject.specs.Alike.{IsListed}
 use Rattle.subject.specs.Meaning.{Meaning, answer, after}
 use Rattle.subject.specs.Tests.{TestCase}
-use Rattle.subject.specs.VectorSet.{VectorSet, Word, IsWordOf}
+use Rattle.input_classes.specs.VectorSet.{VectorSet, Word, IsWordOf}
 
 -- two words agree on the marks: after both, each mark gets the same replies
 abbrev pub AgreeOn : {S : Type 0} → Meaning S → List Word → Word → Word → Type 0

@@ -1,45 +1,56 @@
--- Tests, and which plans pass them.
-use Rattle.std.specs.Prelude.{◌≡◌, ◌≢◌, ℕ, ◌+◌, ℤ, List, length, take, Some, slice_get}
+-- Tests, and what it means that they are passed: over the answers alone, a function from words to replies.
+use Rattle.std.specs.Prelude.{◌≡◌, ◌≢◌, ℕ, ◌+◌, ℤ, List, [], ◌∷◌, ◌++◌, length, take, Some, slice_get}
 use Rattle.std.specs.List.{All}
-use Rattle.subject.specs.Meaning.{Meaning, answer}
-use Rattle.subject.specs.VectorSet.{VectorSet, Word, IsWordOf}
+use Rattle.input_classes.specs.VectorSet.{VectorSet, Word, IsWordOf}
+
+-- the replies to each word
+abbrev pub Answers : Type 0
+Answers = Word → List (List ℤ)
 
 -- a word with the replies that are expected
 pub record TestCase : Type 0 where
   pub word : Word
   pub replies : List (List ℤ)
 
--- a test is a word with one expected reply per vector
-pub record IsTest (s : VectorSet) (test : TestCase) : Type 0 where
+-- a word with one expected reply per vector
+pub record IsTestCase (s : VectorSet) (test : TestCase) : Type 0 where
   pub is_word : IsWordOf s test.word
   pub one_each : length test.replies ≡ length test.word
 
--- the plan answers the test as expected
-abbrev pub AnswersTest : {S : Type 0} → Meaning S → TestCase → Type 0
-AnswersTest i test = answer i test.word ≡ test.replies
+-- the test is answered as expected
+abbrev pub AnswersTest : Answers → TestCase → Type 0
+AnswersTest answers test = answers test.word ≡ test.replies
 
--- the plan answers every test as expected
-abbrev pub Passes : {S : Type 0} → Meaning S → List TestCase → Type 0
-Passes i tests = All (AnswersTest i) tests
+-- every test is answered as expected
+abbrev pub Passes : Answers → List TestCase → Type 0
+Passes answers tests = All (AnswersTest answers) tests
 
--- a test and a step in it, counted from 1, and a reply
+-- a test and a step in it, both counted from 1, and a reply
 pub record Failure : Type 0 where
   pub test : ℕ
   pub step : ℕ
   pub given : List ℤ
 
--- the first test, in order, that the plan does not answer as expected, the first step in it where the replies differ,
--- and the plan's reply there
-pub record IsFirstFailure {S : Type 0} (i : Meaning S) (tests : List TestCase) (failure : Failure) : Type 0 where
-  pub place : ℕ
-  pub step : ℕ
-  pub test : TestCase
+-- the first test, in order, that is not answered as expected, the first step in it where the replies differ, and the
+-- reply given there
+pub record IsFirstFailure (answers : Answers) (tests : List TestCase) (failure : Failure) : Type 0 where
+  pub tests_before : ℕ
+  pub steps_before : ℕ
+  pub failed : TestCase
   pub expected : List ℤ
-  pub test_number : failure.test ≡ place + 1
-  pub step_number : failure.step ≡ step + 1
-  pub there : slice_get tests place ≡ Some test
-  pub earlier_tests : Passes i (take place tests)
-  pub earlier_steps : take step (answer i test.word) ≡ take step test.replies
-  pub given : slice_get (answer i test.word) step ≡ Some failure.given
-  pub wanted : slice_get test.replies step ≡ Some expected
+  pub test_number : failure.test ≡ tests_before + 1
+  pub step_number : failure.step ≡ steps_before + 1
+  pub there : slice_get tests tests_before ≡ Some failed
+  pub passed : Passes answers (take tests_before tests)
+  pub same : take steps_before (answers failed.word) ≡ take steps_before failed.replies
+  pub given : slice_get (answers failed.word) steps_before ≡ Some failure.given
+  pub wanted : slice_get failed.replies steps_before ≡ Some expected
   pub differs : failure.given ≢ expected
+
+-- two answers to a word differ at its last vector and at no earlier one
+pub record PartAtLast (first second : Answers) (word : Word) : Type 0 where
+  pub front : Word
+  pub last : List ℤ
+  pub is : word ≡ front ++ last ∷ []
+  pub same : first front ≡ second front
+  pub differ : first word ≢ second word

@@ -7,9 +7,10 @@ ghost use Rattle.subject.specs.Alike.{ActsLike, Equal, HasAtMost, HasRank, LeadA
 ghost use Rattle.subject.specs.Domain.{ActByClasses, Complete, Inside, box};
 ghost use Rattle.subject.specs.Meaning.{IsReached, after, answer, answer_from, state_after};
 ghost use Rattle.subject.specs.Method.{AreCoverAndMarks, HaveProducts, IsAnswered, IsTested};
-ghost use Rattle.subject.specs.Partition.{ActAlike, Covers, Partition, in_witnesses, witnesses};
-ghost use Rattle.subject.specs.Tests.{Failure, IsFirstFailure, IsTest, Passes, TestCase};
-ghost use Rattle.subject.specs.VectorSet.{IsIn, IsWordOf, Members, VectorSet, Word, box_of};
+ghost use Rattle.input_classes.specs.Partition.{Covers, Partition, in_witnesses, witnesses};
+ghost use Rattle.subject.specs.Alike.{MembersActAlike};
+ghost use Rattle.subject.specs.Tests.{Answers, Failure, IsFirstFailure, Passes, TestCase};
+ghost use Rattle.input_classes.specs.VectorSet.{IsIn, IsWordOf, Members, VectorSet, Word, box_of};
 
 use crate::Plan;
 use lin_form::Signature;
@@ -78,7 +79,7 @@ pub fn rank_is_least<P: Plan>(plan: &P)
 /// Where members of a class act alike, a word and its word of witnesses have equal answers.
 pub fn witnesses_stand_in<P: Plan>(plan: &P)
     ensures answers { let m = P.plan plan.now in
-        (s : VectorSet) (r : Partition) → Covers s r → ActAlike s r m
+        (s : VectorSet) (r : Partition) → Covers s r → MembersActAlike s r m
         → (w : Word) → IsWordOf s w → answer m w ≡ answer m (in_witnesses r w) }
     ensures members { (s : VectorSet) (r : Partition) → Covers s r
         → (w : Word) → IsWordOf s w → IsWordOf (Members (witnesses r)) (in_witnesses r w) }
@@ -90,16 +91,16 @@ pub fn witnesses_stand_in<P: Plan>(plan: &P)
 /// the rank.
 pub fn states_over_witnesses<P: Plan>(plan: &P)
     ensures over { let m = P.plan plan.now in
-        (s : VectorSet) (r : Partition) (n : ℕ) → Covers s r → ActAlike s r m
+        (s : VectorSet) (r : Partition) (n : ℕ) → Covers s r → MembersActAlike s r m
         → HasAtMost s m n → HasAtMost (Members (witnesses r)) m n }
     ensures from { let m = P.plan plan.now in
-        (s : VectorSet) (r : Partition) (n : ℕ) → Covers s r → ActAlike s r m
+        (s : VectorSet) (r : Partition) (n : ℕ) → Covers s r → MembersActAlike s r m
         → HasAtMost (Members (witnesses r)) m n → HasAtMost s m n }
     ensures rank_over { let m = P.plan plan.now in
-        (s : VectorSet) (r : Partition) (n : ℕ) → Covers s r → ActAlike s r m
+        (s : VectorSet) (r : Partition) (n : ℕ) → Covers s r → MembersActAlike s r m
         → HasRank s m n → HasRank (Members (witnesses r)) m n }
     ensures rank_from { let m = P.plan plan.now in
-        (s : VectorSet) (r : Partition) (n : ℕ) → Covers s r → ActAlike s r m
+        (s : VectorSet) (r : Partition) (n : ℕ) → Covers s r → MembersActAlike s r m
         → HasRank (Members (witnesses r)) m n → HasRank s m n }
 {}
 
@@ -118,7 +119,7 @@ pub fn lift<P: Plan, Q: Plan>(model: &P, other: &Q)
 /// states on.
 pub fn model_is_inside<P: Plan>(model: &P)
     ensures { let m = P.plan model.now in
-        (r : Partition) (n : ℕ) → Covers (box m r) r → ActAlike (box m r) r m → HasAtMost (box m r) m n → Inside m r n m }
+        (r : Partition) (n : ℕ) → Covers (box m r) r → MembersActAlike (box m r) r m → HasAtMost (box m r) m n → Inside m r n m }
 {}
 
 /// The theorem of the W-method (Chow 1978): a plan with at most `d` states more than the cover has words, counted over
@@ -147,13 +148,13 @@ pub fn tests_are_complete<P: Plan>(model: &P)
         → All (IsAnswered (box m r) m) tests → Complete m r n tests }
 {}
 
-/// A plan passes all tests or has one first failure, and not both.
-pub fn verdict_is_one<P: Plan>(plan: &P)
-    ensures either { let m = P.plan plan.now in
-        (s : VectorSet) (tests : List TestCase) → All (IsTest s) tests
-        → Passes m tests ⊎ ((failure : Failure) × IsFirstFailure m tests failure) }
-    ensures not_both { let m = P.plan plan.now in
-        (tests : List TestCase) (failure : Failure) → IsFirstFailure m tests failure → Passes m tests → ⊥ }
-    ensures one { let m = P.plan plan.now in
-        (tests : List TestCase) (f g : Failure) → IsFirstFailure m tests f → IsFirstFailure m tests g → f ≡ g }
+/// Answers with one reply per vector pass all tests or have one first failure, and not both.
+pub fn verdict_is_one()
+    ensures either { (answers : Answers) (tests : List TestCase) → ((w : Word) → length (answers w) ≡ length w)
+        → All (λ test. length test.replies ≡ length test.word) tests
+        → Passes answers tests ⊎ ((failure : Failure) × IsFirstFailure answers tests failure) }
+    ensures not_both { (answers : Answers) (tests : List TestCase) (failure : Failure) → IsFirstFailure answers tests failure
+        → Passes answers tests → ⊥ }
+    ensures one { (answers : Answers) (tests : List TestCase) (f g : Failure) → IsFirstFailure answers tests f
+        → IsFirstFailure answers tests g → f ≡ g }
 {}

@@ -6,7 +6,7 @@ ghost use Rattle.subject.specs.Alike.{ActsLike, HasAtMost, HasRank};
 ghost use Rattle.subject.specs.Domain.{Complete};
 ghost use Rattle.subject.specs.FiniteMap.{plan_of_map};
 ghost use Rattle.subject.specs.Method.{IsTested};
-ghost use Rattle.subject.specs.VectorSet.{box_of};
+ghost use Rattle.input_classes.specs.VectorSet.{box_of};
 ghost use Rattle.subject.specs.Lamp.{entry, lamp, one_class, one_press, pressed};
 
 use super::*;

@@ -1,6 +1,6 @@
 use Rattle.std.proofs.Common.{[], Contains}
 use Rattle.std.proofs.lemmas.List.Elements.{All-nil}
-use Rattle.subject.specs.Partition.{witnesses}
+use Rattle.input_classes.specs.Partition.{witnesses}
 use Rattle.subject.proofs.Lifting.{equal_from, lead_alike_from}
 use Rattle.subject.proofs.laws.lift.Goals as goal
 

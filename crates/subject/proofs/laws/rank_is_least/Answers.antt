@@ -1,6 +1,6 @@
 use Rattle.std.proofs.Common.{arith}
 use Rattle.std.proofs.lemmas.List.Elements.{All-weaker}
-use Rattle.subject.specs.VectorSet.{IsIn}
+use Rattle.input_classes.specs.VectorSet.{IsIn}
 use Rattle.subject.proofs.Ranks.{few_apart, rank_within, more_states}
 use Rattle.subject.proofs.laws.rank_is_least.Goals as goal
 

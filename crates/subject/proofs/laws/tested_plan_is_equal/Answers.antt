@@ -1,5 +1,5 @@
 use Rattle.std.proofs.lemmas.List.Elements.{All-weaker}
-use Rattle.subject.specs.VectorSet.{IsIn}
+use Rattle.input_classes.specs.VectorSet.{IsIn}
 use Rattle.subject.proofs.Method.{equal_by_tests}
 use Rattle.subject.proofs.laws.tested_plan_is_equal.Goals as goal
 

@@ -1,4 +1,5 @@
-use Rattle.subject.proofs.Witnesses.{answers-witnesses, word-member, words-within}
+use Rattle.input_classes.proofs.CallerLemmas.{word-member, words-within}
+use Rattle.subject.proofs.Witnesses.{answers-witnesses}
 use Rattle.subject.proofs.laws.witnesses_stand_in.Goals as goal
 
 pub returns-clause-answers : goal.returns-clause-answers

@@ -3,7 +3,7 @@ use Rattle.subject.specs.Alike.{ActsLike, HasRank}
 use Rattle.subject.specs.FiniteMap.{FiniteMap, plan_of_map}
 use Rattle.subject.specs.Lamp.{lamp, pressed}
 use Rattle.subject.specs.Method.{IsTested}
-use Rattle.subject.specs.VectorSet.{box_of}
+use Rattle.input_classes.specs.VectorSet.{box_of}
 use Rattle.subject.proofs.Lamp.{lamp_is_tested, presses_alike, presses_apart, two_states}
 use Rattle.subject.proofs.Ranks.{rank_within}
 use Rattle.subject.proofs.tests.is_as_defined.Goals as goal
