@@ -1,4 +1,5 @@
 pub mod Finding
 pub mod Witnesses
 pub mod Few
+pub mod One
 pub mod CallerLemmas

@@ -3,13 +3,9 @@ use Rattle.std.specs.Prelude.{ℤ, List, Contains}
 use Rattle.std.specs.List.{All}
 use Rattle.lin_form.specs.declared.literal.Literal.{Literal}
 use Rattle.lin_form.specs.declared.signature.Signature.{Signature}
-use Rattle.lin_form.specs.Atom.{IsAsSaid}
+use Rattle.lin_form.specs.Atom.{AreAsSaid}
 use Rattle.lin_form.specs.Range.{IsInRanges}
 use Rattle.lin_form.specs.Signature.{ranges_of}
-
--- each literal is as it says on the vector
-abbrev pub AreAsSaid : List Literal → List ℤ → Type 0
-AreAsSaid literals vector = All (λ literal. IsAsSaid literal vector) literals
 
 -- a vector of the ranges on which each literal is as it says
 pub record IsInBox (ranges : List (ℤ × ℤ)) (literals : List Literal) (vector : List ℤ) : Type 0 where

@@ -7,5 +7,5 @@ mod laws;
 mod pattern;
 
 pub use class::Class;
-pub use laws::{partition_covers_its_box, partition_has_all_patterns};
+pub use laws::{partition_covers_its_box, partition_has_all_patterns, partition_is_one};
 pub use pattern::Pattern;
