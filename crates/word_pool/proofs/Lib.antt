@@ -7,3 +7,6 @@ pub mod Extending
 pub mod Paths
 pub mod Following
 pub mod Walking
+pub mod Entering
+pub mod Ending
+pub mod CallerLemmas

@@ -2,7 +2,7 @@
 #![tactic(auto)]
 
 ghost use Rattle.std.specs.Prelude.{◌≡◌, ℕ, ◌+◌, ◌-◌, ◌<◌, ◌≤◌, [], ◌∷◌, ◌++◌, length, take, drop, slice_get, Contains, Some, IsOk, IfOk, OnOk, OnErr};
-ghost use Rattle.word_pool.specs.Words.{word, extension_of, ArePooled, Enters, IsProperPrefix, Keeps};
+ghost use Rattle.word_pool.specs.Words.{word, words_at, extension_of, ArePooled, ArePrefixesOf, Enters, EntersAfter, IsProperPrefix, Keeps};
 ghost use Rattle.word_pool.specs.Order.{AreEnds};
 
 mod trie;
@@ -112,6 +112,21 @@ impl Pool {
         Ok(WordId { number })
     }
 
+    /// The word that is followed by letters. It is added, with its prefixes, where the pool does not have it.
+    pub fn enter(&mut self, id: WordId, letters: &[u16]) -> Result<WordId, AllocError>
+        requires id { id < length self.old.words }
+        requires few { length self.old.words + length letters.now < u32.MAX }
+        ensures word { IfOk result (λ i. slice_get self.new.words i ≡ Some (word self.old.words id ++ letters.now)) }
+        ensures enters { EntersAfter self.old.words (word self.old.words id) letters.now self.new.words }
+        ensures keeps { Keeps self.old.words self.new.words }
+    {
+        let mut at = id;
+        for letter in letters {
+            at = self.extend(at, *letter)?;
+        }
+        Ok(at)
+    }
+
     /// Makes at least `n` words spare, at once.
     pub fn reserve(&mut self, n: usize) -> Result<(), AllocError>
         ensures words { self.new.words ≡ self.old.words }
@@ -153,7 +168,8 @@ impl Pool {
 
     /// The words that are a proper prefix of no other, in ascending lexicographic order.
     pub fn walk(&self, alloc: Global) -> Result<Vec<WordId>, AllocError>
-        ensures { IfOk result (λ ids. AreEnds self.now.words ids.items) }
+        ensures ends { IfOk result (λ ids. AreEnds self.now.words ids.items) }
+        ensures prefixes { IfOk result (λ ids. ArePrefixesOf self.now.words (words_at self.now.words ids.items)) }
     {
         let mut ids = Vec::new(alloc);
         let mut at = 0;

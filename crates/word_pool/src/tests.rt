@@ -2,7 +2,6 @@ ghost use Rattle.std.specs.Prelude.{◌<◌};
 
 use super::*;
 use std::collections::BTreeSet;
-use std::process::Abort;
 use std::test::Fail;
 
 // Lists of 24 words of at most 7 letters, from a linear congruential sequence.
@@ -21,18 +20,6 @@ fn words_from(alloc: Global, seed: u32, letters: u16) -> Result<Vec<Vec<u16>>, A
         words.push(word)?;
     }
     Ok(words)
-}
-
-// Enters a word letter by letter.
-fn enter(rt: &impl Abort, pool: &mut Pool, word: &[u16]) -> Result<(), AllocError> {
-    let mut number = 0;
-    for letter in word {
-        assert!(rt; number < pool.words());
-        assert!(rt; pool.words() < 1000);
-        let id = pool.extend(pool.word(number), *letter)?;
-        number = pool.number(id);
-    }
-    Ok(())
 }
 
 // The words of a sorted set that no other word of it goes on from.
@@ -102,7 +89,13 @@ fn agrees_with_a_sorted_set(rt: HostRuntime) -> Result<(), Fail> {
                 for length in 0..word.len() + 1 {
                     let _is_new = set.insert(Vec::from_slice(alloc, &word[..length])?)?;
                 }
-                enter(&rt, &mut pool, word.as_slice())?;
+                assert!(rt; pool.words() < 1000 && word.len() < 1000);
+                let root = pool.root();
+                let id = pool.enter(root, word.as_slice())?;
+                let mut into = [0; 7];
+                assert!(rt; pool.length(id) <= 7);
+                let count = pool.letters(id, &mut into);
+                assert_eq!(rt; &into[..count], word.as_slice());
             }
             assert_eq!(rt; pool.words(), set.len());
             for number in 0..pool.words() {

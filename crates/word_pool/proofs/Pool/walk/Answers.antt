@@ -4,6 +4,7 @@ use Rattle.word_pool.specs.Words.{Words, word}
 use Rattle.word_pool.specs.Order.{AreEnds}
 use Rattle.word_pool.specs.Trie.{no_node, words_of, IsNext}
 use Rattle.word_pool.proofs.Walking.{IsVisited, visit_end, visit_inner, walk_next, walk_all, fewer_left}
+use Rattle.word_pool.proofs.Ending.{ends_cover}
 use Rattle.word_pool.proofs.Pool.walk.Goals as goal
 use Rattle.word_pool.proofs.Pool.walk.Goals.{After-next_of-at, then-index-eq0+in_ok-push, else-index-eq0}
 
@@ -38,5 +39,7 @@ loop-ids-preserved c =
 pub returns : goal.returns
 returns c =
     let here = (goal.at.returns c).After-next_of-at in
+    let ends : AreEnds c.args.self.now.words c.if-index-eq0.ids.items =
     subst (λ (w : Words). AreEnds w.words c.if-index-eq0.ids.items) c.self.view_is
-    (walk_all (words_of c.self.inside.nodes.items) (different here) c.loop-ids.at c.if-index-eq0.ids.items (visited here) (rw (c.if-at-eq0.true) at (next here)))
+    (walk_all (words_of c.self.inside.nodes.items) (different here) c.loop-ids.at c.if-index-eq0.ids.items (visited here) (rw (c.if-at-eq0.true) at (next here))) in
+    record { ends = ends; prefixes = ends_cover c.args.self.now.words c.if-index-eq0.ids.items ends }
