@@ -9,7 +9,7 @@ use Rattle.word_pool.proofs.Orders.{below_itself, below_trans}
 use Rattle.word_pool.proofs.CallerLemmas.{before_itself, before_trans, up_to_both}
 use Rattle.suite_words.specs.Cover.{IsFirstOfItsKind, IsCoverBy}
 use Rattle.suite_words.specs.Marks.{AreMarksBy, IsNextMark}
-use Rattle.suite_words.specs.Tests.{AreTests, IsTest}
+use Rattle.suite_words.specs.Tests.{AreLongest, AreTests, IsLongest, IsProduct}
 
 module _ (R : List ℕ → List ℕ → Type 0) where
   in_cons : (x : List ℕ) (xs : List (List ℕ)) (z : List ℕ) (k : ℕ) → k < length (x ∷ xs) → get_or (x ∷ xs) k z ≡ z → (x ≡ z) ⊎ Contains xs z
@@ -72,9 +72,12 @@ pub cover_unique : (c : ℕ) (Alike : List ℕ → List ℕ → Type 0) (xs ys :
 cover_unique c Alike xs ys x y = one_list IsBefore before_itself before_trans xs ys x.ordered y.ordered
     (λ z h. y.each z (member xs (IsFirstOfItsKind c Alike) x.only z h)) (λ z h. x.each z (member ys (IsFirstOfItsKind c Alike) y.only z h))
 
+pub longest_unique : (P : List ℕ → Type 0) (xs ys : List (List ℕ)) → AreLongest P xs → AreLongest P ys → xs ≡ ys
+longest_unique P xs ys x y = one_list IsBelow below_itself below_trans xs ys x.ascending y.ascending
+    (λ z h. y.each z (member xs (IsLongest P) x.only z h)) (λ z h. x.each z (member ys (IsLongest P) y.only z h))
+
 pub tests_unique : (c : ℕ) (cover marks : List (List ℕ)) (d : ℕ) (xs ys : List (List ℕ)) → AreTests c cover marks d xs → AreTests c cover marks d ys → xs ≡ ys
-tests_unique c cover marks d xs ys x y = one_list IsBelow below_itself below_trans xs ys x.ascending y.ascending
-    (λ z h. y.each z (member xs (IsTest c cover marks d) x.only z h)) (λ z h. x.each z (member ys (IsTest c cover marks d) y.only z h))
+tests_unique c cover marks d xs ys x y = longest_unique (IsProduct c cover marks d) xs ys x y
 
 slice_get_seam : (done : List (List ℕ)) (w : List ℕ) (xs : List (List ℕ)) → slice_get (done ++ w ∷ xs) (length done) ≡ Some w
 slice_get_seam [] w xs = refl

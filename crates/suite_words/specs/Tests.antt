@@ -19,13 +19,17 @@ pub record IsProduct (c : ℕ) (cover marks : List (List ℕ)) (d : ℕ) (w : Li
   pub in_cover : i < length cover
   pub after : IsProductAfter (word cover i) c marks d w
 
--- w is a product that is a proper prefix of no product
-pub record IsTest (c : ℕ) (cover marks : List (List ℕ)) (d : ℕ) (w : List ℕ) : Type 0 where
-  pub product : IsProduct c cover marks d w
-  pub longest : (u : List ℕ) → IsProduct c cover marks d u → ¬ IsProperPrefix w u
+-- w is one of a set of words, and a proper prefix of none of them
+pub record IsLongest (P : List ℕ → Type 0) (w : List ℕ) : Type 0 where
+  pub product : P w
+  pub longest : (u : List ℕ) → P u → ¬ IsProperPrefix w u
 
--- exactly these products, each once, in ascending lexicographic order
-pub record AreTests (c : ℕ) (cover marks : List (List ℕ)) (d : ℕ) (tests : List (List ℕ)) : Type 0 where
-  pub only : All (IsTest c cover marks d) tests
-  pub each : (w : List ℕ) → IsTest c cover marks d w → Contains tests w
+-- exactly the words of a set that are a proper prefix of none of them, each once, in ascending lexicographic order
+pub record AreLongest (P : List ℕ → Type 0) (tests : List (List ℕ)) : Type 0 where
+  pub only : All (IsLongest P) tests
+  pub each : (w : List ℕ) → IsLongest P w → Contains tests w
   pub ascending : AllPairs IsBelow tests
+
+-- the tests: the products that are a proper prefix of no product
+abbrev pub AreTests : ℕ → List (List ℕ) → List (List ℕ) → ℕ → List (List ℕ) → Type 0
+AreTests c cover marks d tests = AreLongest (IsProduct c cover marks d) tests
