@@ -1,17 +1,20 @@
 -- Two literals with opposite coefficients have the same sum on every vector.
-use Rattle.std.proofs.Common.{◌≡◌, ℕ, zero, suc, ◌<◌, ℤ, pos, ◌+ℤ◌, ◌*ℤ◌, ◌≤ℤ◌, ◌<ℤ◌, List, [], ◌∷◌, length, ap, arith}
+use Rattle.std.proofs.Common.{◌≡◌, ℕ, zero, suc, ◌<◌, ℤ, pos, ◌+ℤ◌, ◌*ℤ◌, ◌≤ℤ◌, ◌<ℤ◌, List, [], ◌∷◌, length, ap, arith, inl, inr}
 use Rattle.std.specs.Prelude.{Option, None, Some, slice_get}
 use Rattle.std.specs.List.{AllByRecursion}
-use Rattle.std.proofs.lemmas.Int.{ints}
+use Rattle.std.proofs.lemmas.Int.{ints, by_lt_z}
 use Rattle.std.proofs.lemmas.List.Elements.{recursion_from_All, All-from_recursion}
 use Rattle.lin_form.specs.Form.{sum_of_products}
 use Rattle.lin_form.specs.Range.{AreRanges, IsRange, IsInRanges}
+use Rattle.input_classes.specs.Order.{IsAtMost}
 use Rattle.lin_form.specs.declared.literal.Literal.{Literal}
-use Rattle.linear_refuter.specs.Sum.{IsSum, constraint_at, coefficients_of, once}
-use Rattle.linear_refuter.specs.Greatest.{offset_at}
+use Rattle.lin_form.specs.Atom.{AreAsSaid}
+use Rattle.linear_refuter.specs.Sum.{IsRefutingSum, constraint_at, coefficients_of, once}
+use Rattle.linear_refuter.specs.inside.Greatest.{offset_at}
 use Rattle.linear_refuter.specs.Refutation.{IsOpposite, NoPair}
-use Rattle.linear_refuter.specs.Decision.{AddToZero, AddBelowZero, IsClash, NoClash, lows}
-use Rattle.linear_refuter.proofs.Said.{sum_turned}
+use Rattle.linear_refuter.specs.inside.Decision.{AddToZero, AddBelowZero, IsClash, NoClash}
+use Rattle.linear_refuter.specs.TightPart.{lows}
+use Rattle.linear_refuter.proofs.Said.{said_at, sum_turned}
 
 pub lows_in : (rs : List (ℤ × ℤ)) → AllByRecursion (λ r. IsRange r.0 r.1) rs → IsInRanges rs (lows rs)
 lows_in [] h = tt
@@ -59,8 +62,8 @@ NoPair-from_clash ls rs ranged clear i j h o s =
     absurd (omega (arith, ints))
 
 -- and two that clash refute every box
-pub IsSum-clash : (ls : List Literal) (i j : ℕ) → IsClash ls i j → (rs : List (ℤ × ℤ)) → IsSum ls rs (once i ∷ once j ∷ [])
-IsSum-clash ls i j c rs = record {
+pub IsRefutingSum-clash : (ls : List Literal) (i j : ℕ) → IsClash ls i j → (rs : List (ℤ × ℤ)) → IsRefutingSum ls rs (once i ∷ once j ∷ [])
+IsRefutingSum-clash ls i j c rs = record {
   short = omega arith;
   known = All-from_recursion (λ w. w.literal < length ls) (once i ∷ once j ∷ []) (opposite_first ls i (slice_get ls j) c.1, (opposite_second ls j (slice_get ls i) c.1, tt));
   negative = λ xs _.
@@ -68,3 +71,23 @@ IsSum-clash ls i j c rs = record {
       let z = below_zero (slice_get ls i) (slice_get ls j) c.1 c.2 in
       omega (arith, ints);
 }
+
+from_zero : (o p : Option Literal) → IsOpposite o p → pos 0 ≤ℤ (offset_at o +ℤ offset_at p) → AddToZero o p
+from_zero None p h k = absurd h
+from_zero (Some a) None h k = absurd h
+from_zero (Some a) (Some b) h k = k
+
+-- where all are as said on one vector, no two clash
+pub NoClash-said : (ls : List Literal) (xs : List ℤ) → AreAsSaid ls xs → NoClash ls
+NoClash-said ls xs s i j h o =
+    let r = recursion_from_All _ ls s in
+    let a = said_at ls xs i r in
+    let b = said_at ls xs j r in
+    let t = opposite_total (slice_get ls i) (slice_get ls j) xs o in
+    from_zero (slice_get ls i) (slice_get ls j) o (omega (arith, ints))
+
+-- the least vector of a box comes before every other
+pub lows_at_most : (rs : List (ℤ × ℤ)) (xs : List ℤ) → IsInRanges rs xs → IsAtMost (lows rs) xs
+lows_at_most [] xs h = tt
+lows_at_most (r ∷ rs) [] h = absurd h
+lows_at_most (r ∷ rs) (x ∷ xs) h = by_lt_z r.0 x (λ l. inl l) (λ l. inr (omega (arith, ints, h.0.0, l), lows_at_most rs xs h.1))

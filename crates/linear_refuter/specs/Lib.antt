@@ -1,5 +1,6 @@
 pub mod Cut
 pub mod Sum
-pub mod Greatest
 pub mod Refutation
-pub mod Decision
+pub mod Answer
+pub mod TightPart
+pub mod inside

@@ -2,7 +2,9 @@ ghost use Rattle.std.specs.Prelude.{◌≡◌, ◌+◌, ◌*◌, ◌≤◌, leng
 ghost use Rattle.linear_refuter.specs.Cut.{IsCut, above, below};
 ghost use Rattle.linear_refuter.specs.Sum.{IsShaped};
 ghost use Rattle.linear_refuter.specs.Refutation.{NoPair, NoSingle, fork, plain};
-ghost use Rattle.linear_refuter.specs.Decision.{HasBits, IsAnswer, IsAnswerWithin, IsLeanWithin, NoClash};
+ghost use Rattle.linear_refuter.specs.inside.Halving.{HasBits};
+ghost use Rattle.linear_refuter.specs.Answer.{IsAnswer};
+ghost use Rattle.linear_refuter.specs.inside.Decision.{IsAnswerWithin, IsLeanWithin, NoClash};
 
 use crate::clash::clash;
 use crate::halving::halving;
@@ -36,6 +38,15 @@ pub fn decide_within(alloc: Global, literals: &[Literal], part: &Part) -> Result
         let tree = sum(alloc, &[once(pair.0), once(pair.1)])?;
         return Ok(Answer::Refuted(tree));
     }
+    decide_consistent(alloc, literals, part)
+}
+
+/// The same where no two literals clash.
+fn decide_consistent(alloc: Global, literals: &[Literal], part: &Part) -> Result<Answer, AllocError>
+    requires shaped { IsShaped literals.now part.now }
+    requires clear { NoClash literals.now }
+    ensures { IfOk result (λ a. IsAnswer literals.now part.now a) }
+{
     decide_part(alloc, literals, part, 21 * part.inputs())
 }
 

@@ -1,8 +1,11 @@
-ghost use Rattle.std.specs.Prelude.{◌≡◌, ◌<◌, ◌≤◌, length, slice_get, slice_set, Some, IsTrue, ◌↔◌, MatchBool};
+ghost use Rattle.std.specs.Prelude.{◌≡◌, ◌<◌, ◌≤◌, length, slice_get, slice_set, Some, IsTrue, ◌↔◌, MatchBool, ℤ, List};
 ghost use Rattle.lin_form.specs.Range.{AreRanges, IsInRanges, IsRange};
+ghost use Rattle.input_classes.specs.Order.{IsAtMost};
 ghost use Rattle.linear_refuter.specs.Cut.{IsCut, below, above};
 
-use lin_form::Bounds;
+use crate::point::lowest;
+use lin_form::{Bounds, Vector};
+use std::alloc::Global;
 use std::marker::Model;
 
 /// A part of a box: one range for each of 1 to 6 variables, held in place.
@@ -41,6 +44,24 @@ impl Part {
             ranges,
             count: list.len(),
         }
+    }
+
+    /// The same part once more. It takes no memory.
+    pub fn copy(&self) -> Part
+        ensures { result ≡ self.now }
+    {
+        Part {
+            ranges: self.ranges,
+            count: self.count,
+        }
+    }
+
+    /// The least vector of the part. It takes no memory.
+    pub fn lowest(&self, alloc: Global) -> Vector
+        ensures inside { IsInRanges self.now result }
+        ensures least { (x : List ℤ) → IsInRanges self.now x → IsAtMost result x }
+    {
+        lowest(alloc, self)
     }
 
     /// The ranges in order.

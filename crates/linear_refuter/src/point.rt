@@ -1,10 +1,11 @@
 ghost use Rattle.std.specs.Prelude.{◌≡◌, ◌≤◌, ◌<◌, ◌+ℤ◌, ℤ, pos, length, map, unsigned_abs, MatchBool, IfSome, All};
 ghost use Rattle.lin_form.specs.Range.{AreRanges, IsInRanges};
-ghost use Rattle.linear_refuter.specs.Sum.{AreAsSaid, IsShaped};
-ghost use Rattle.linear_refuter.specs.Decision.{lows};
+ghost use Rattle.lin_form.specs.Atom.{AreAsSaid};
+ghost use Rattle.linear_refuter.specs.Sum.{IsShaped};
+ghost use Rattle.linear_refuter.specs.TightPart.{lows};
 
 use crate::Part;
-use lin_form::{Literal, Vector, atom_holds};
+use lin_form::{Literal, Vector, all_as_said};
 use std::alloc::Global;
 
 /// The vector of these numbers, if it lies in the box and every literal is as it says on it.
@@ -21,24 +22,10 @@ pub(crate) fn point(
     if !part.contains(vector.as_slice()) {
         return None;
     }
-    if !are_as_said(literals, part.inputs(), &vector) {
+    if !all_as_said(literals, &vector) {
         return None;
     }
     Some(vector)
-}
-
-/// Whether every literal is as it says on the vector.
-pub(crate) fn are_as_said(literals: &[Literal], width: usize, vector: &Vector) -> bool
-    requires shaped { All (λ literal. length literal.atom.coefficients ≡ width) literals.now }
-    requires same { length vector.now ≡ width }
-    ensures { MatchBool result (AreAsSaid literals.now vector.now) (AreAsSaid literals.now vector.now → ⊥) }
-{
-    for literal in literals {
-        if atom_holds(&literal.atom, vector) != literal.holds {
-            return false;
-        }
-    }
-    true
 }
 
 /// The least vector of the box.

@@ -1,16 +1,18 @@
 -- How the part of a box that has the least vector is narrowed.
-use Rattle.std.proofs.Common.{◌≡◌, ℕ, zero, suc, ◌+◌, ◌<◌, ℤ, pos, ◌-ℤ◌, ◌≤ℤ◌, ◌<ℤ◌, List, [], ◌∷◌, length, get_or, refl, subst, inl, inr, arith}
-use Rattle.std.specs.Prelude.{Some, slice_get, unsigned_abs}
+use Rattle.std.proofs.Common.{◌≡◌, ℕ, zero, suc, ◌<◌, ◌≤◌, ℤ, pos, ◌≤ℤ◌, ◌<ℤ◌, List, [], ◌∷◌, length, get_or, refl, ap, subst, inl, inr, arith}
+use Rattle.std.specs.Prelude.{Some, slice_get}
 use Rattle.std.proofs.lemmas.Int.{ints}
 use Rattle.std.proofs.lemmas.List.Elements.{recursion_from_All}
 use Rattle.lin_form.specs.Range.{IsInRanges}
 use Rattle.lin_form.specs.declared.literal.Literal.{Literal}
 use Rattle.linear_refuter.specs.Cut.{IsCut, below, above}
-use Rattle.linear_refuter.specs.Sum.{AreAsSaid}
-use Rattle.linear_refuter.specs.Refutation.{Plan, Refutes}
-use Rattle.linear_refuter.specs.Decision.{IsFlat}
-use Rattle.linear_refuter.proofs.CallerLemmas.{split_in, below_in, above_in, flat_lows, refuted_none}
-use Rattle.witness_pick.specs.Least.{IsAtMost, IsFirstWide, IsLeast, IsNarrowed}
+use Rattle.lin_form.specs.Atom.{AreAsSaid}
+use Rattle.linear_refuter.specs.TightPart.{IsFlat, lows, IsWithin, IsTightened}
+use Rattle.linear_refuter.specs.Answer.{HasNone}
+use Rattle.linear_refuter.proofs.CallerLemmas.{split_in, below_in, above_in, flat_lows, within_in}
+use Rattle.input_classes.specs.Order.{IsAtMost}
+use Rattle.witness_pick.specs.inside.Narrowing.{IsFirstWide, IsNarrowed, room}
+use Rattle.witness_pick.specs.Least.{IsLeast}
 
 pub at_most_itself : (xs : List ℤ) → IsAtMost xs xs
 at_most_itself [] = tt
@@ -41,17 +43,41 @@ IsNarrowed-below ls box limits v cut xs found c f n i s = record {
   ];
 }
 
--- a refuted part below the cut is left out
-pub IsNarrowed-above : (ls : List Literal) (box limits : List (ℤ × ℤ)) (v : ℕ) (cut : ℤ) (xs : List ℤ) (tree : Plan) → IsCut limits v cut → Refutes ls (below limits v cut) tree → IsNarrowed ls box limits xs → IsNarrowed ls box (above limits v cut) xs
-IsNarrowed-above ls box limits v cut xs tree c r n = record {
+-- a part below the cut with no vector is left out
+pub IsNarrowed-above : (ls : List Literal) (box limits : List (ℤ × ℤ)) (v : ℕ) (cut : ℤ) (xs : List ℤ) → IsCut limits v cut → HasNone ls (below limits v cut) → IsNarrowed ls box limits xs → IsNarrowed ls box (above limits v cut) xs
+IsNarrowed-above ls box limits v cut xs c r n = record {
   part = λ zs h. n.part zs (above_in limits v cut zs c h);
-  inside = elim (split_in limits v cut xs n.inside) [ inl b ↦ absurd (refuted_none ls (below limits v cut) tree xs r b n.said) | inr a ↦ a ];
+  inside = elim (split_in limits v cut xs n.inside) [ inl b ↦ absurd (r xs b n.said) | inr a ↦ a ];
   said = n.said;
   covers = λ ys h k. elim (n.covers ys h k) [
-    | inl l ↦ elim (split_in limits v cut ys l) [ inl b ↦ absurd (refuted_none ls (below limits v cut) tree ys r b k) | inr a ↦ inl a ]
+    | inl l ↦ elim (split_in limits v cut ys l) [ inl b ↦ absurd (r ys b k) | inr a ↦ inl a ]
     | inr l ↦ inr (λ zs j. l zs (above_in limits v cut zs c j))
   ];
 }
+
+-- a tightened part is enough
+pub IsNarrowed-tight : (ls : List Literal) (box limits next : List (ℤ × ℤ)) (xs : List ℤ) → IsTightened ls limits next → IsNarrowed ls box limits xs → IsNarrowed ls box next xs
+IsNarrowed-tight ls box limits next xs t n = record {
+  part = λ zs h. n.part zs (within_in next limits zs t.within h);
+  inside = t.keeps xs n.inside n.said;
+  said = n.said;
+  covers = λ ys h k. elim (n.covers ys h k) [
+    | inl l ↦ inl (t.keeps ys l k)
+    | inr l ↦ inr (λ zs j. l zs (within_in next limits zs t.within j))
+  ];
+}
+
+pub room_within : (rs ss : List (ℤ × ℤ)) (xs : List ℤ) → IsWithin rs ss → IsInRanges rs xs → room rs ≤ room ss
+room_within [] [] xs h i = omega arith
+room_within [] (s ∷ ss) xs h i = absurd h
+room_within (r ∷ rs) [] xs h i = absurd h
+room_within (r ∷ rs) (s ∷ ss) [] h i = absurd i
+room_within (r ∷ rs) (s ∷ ss) (x ∷ xs) h i = let k = room_within rs ss xs h.2 i.1 in omega (arith, ints, h.0, h.1, i.0.0, i.0.1)
+
+pub lows_at : (rs : List (ℤ × ℤ)) (v : ℕ) (r : ℤ × ℤ) → slice_get rs v ≡ Some r → get_or (lows rs) v (pos 0) ≡ r.0
+lows_at [] v r e = absurd cc
+lows_at (s ∷ rs) zero r e = let q : s ≡ r = cc in ap (λ (t : ℤ × ℤ). t.0) q
+lows_at (s ∷ rs) (suc v) r e = lows_at rs v r e
 
 -- where every range has one number, the vector is the least
 pub IsLeast-flat : (ls : List Literal) (box limits : List (ℤ × ℤ)) (xs : List ℤ) → IsFlat limits → IsNarrowed ls box limits xs → IsLeast ls box xs
@@ -67,11 +93,6 @@ IsLeast-flat ls box limits xs flat n = record {
     | inr l ↦ l xs n.inside
   ];
 }
-
--- how many numbers the ranges have beyond one each
-abbrev pub room : List (ℤ × ℤ) → ℕ
-room [] = 0
-room (r ∷ rs) = unsigned_abs (r.1 -ℤ r.0) + room rs
 
 pub room_below : (rs : List (ℤ × ℤ)) (v : ℕ) (cut : ℤ) → IsCut rs v cut → room (below rs v cut) < room rs
 room_below [] v cut c = absurd c

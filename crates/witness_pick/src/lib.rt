@@ -15,7 +15,7 @@ mod tests;
 
 use lin_form::{Bounds, Literal, Vector};
 use linear_refuter::{Answer, Part, Tree, decide};
-use narrowing::narrowed;
+pub use narrowing::least_from;
 use std::alloc::{AllocError, Global};
 
 /// The least vector of a box on which every literal is as it says, or why there is none.
@@ -27,8 +27,7 @@ pub enum Pick {
 
 /// The lexicographically least vector of the box on which every literal is as it says, or a refutation.
 ///
-/// The inputs are fixed in order. The least number of each is found by queries to `decide_within` on a lower part of
-/// its range.
+/// The inputs are fixed in order. The least number of each is found by asking for a vector in lower parts of its range.
 pub fn least(alloc: Global, literals: &[Literal], bounds: &Bounds) -> Result<Pick, AllocError>
     requires few { length literals.now ≤ 160 }
     requires shaped { IsShaped literals.now bounds.now }
@@ -37,8 +36,7 @@ pub fn least(alloc: Global, literals: &[Literal], bounds: &Bounds) -> Result<Pic
     match decide(alloc, literals, bounds)? {
         Answer::Refuted(tree) => Ok(Pick::None(tree)),
         Answer::Point(vector) => {
-            let limits = Part::of(bounds);
-            let least = narrowed(alloc, literals, bounds, &limits, vector, true)?;
+            let least = least_from(alloc, literals, &Part::of(bounds), vector);
             Ok(Pick::Least(least))
         }
     }

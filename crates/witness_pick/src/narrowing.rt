@@ -1,48 +1,153 @@
 ghost use Rattle.std.specs.Prelude.{get_or, pos, ◌≡◌, ◌≤◌, ◌<◌, ◌≤ℤ◌, ◌<ℤ◌, length, IfOk, MatchOption};
 ghost use Rattle.lin_form.specs.Range.{IsInRanges, IsRange};
-ghost use Rattle.linear_refuter.specs.Decision.{IsFlat};
+ghost use Rattle.linear_refuter.specs.TightPart.{IsFlat, IsTightened};
+ghost use Rattle.lin_form.specs.Atom.{AreAsSaid};
 ghost use Rattle.linear_refuter.specs.Sum.{IsShaped};
-ghost use Rattle.witness_pick.specs.Least.{IsFirstWide, IsLeast, IsNarrowed};
+ghost use Rattle.witness_pick.specs.inside.Narrowing.{IsFirstWide, IsStep};
+ghost use Rattle.witness_pick.specs.Least.{IsLeast};
 
-use lin_form::{Bounds, Literal, Vector};
-use linear_refuter::{Answer, Part, decide_within};
-use std::alloc::{AllocError, Global};
+use lin_form::{Literal, Vector};
+use linear_refuter::{Part, Relaxation, corner, least_guess, seek, tightened};
+use std::alloc::Global;
 
-/// The least vector on which every literal is as it says, from one such vector and the part of the box in which the
-/// least one lies.
+/// The least vector of a part on which every literal is as it says, from one such vector.
 ///
-/// The first range with two numbers is cut off above the vector's number. Then a lower part is asked for: all but the
-/// last number, and the lower half, in turn.
-pub(crate) fn narrowed(
+/// The part is tightened again and again. Its first range with two numbers is cut off above the vector's number, and
+/// then a lower part is asked for, at first one that ends where the relaxation begins. It takes no memory.
+pub fn least_from(alloc: Global, literals: &[Literal], part: &Part, vector: Vector) -> Vector
+    requires shaped { IsShaped literals.now part.now }
+    requires inside { IsInRanges part.now vector }
+    requires said { AreAsSaid literals.now vector }
+    ensures { IsLeast literals.now part.now result }
+{
+    let mut limits = tight(literals, part);
+    let mut found = vector;
+    let mut relaxation = Relaxation::new();
+    let mut pace = Pace {
+        variable: 6,
+        step: 0,
+    };
+    while let Some(variable) = first_wide(&limits) {
+        let step = step_of(
+            alloc,
+            literals,
+            &limits,
+            found,
+            variable,
+            pace,
+            &mut relaxation,
+        );
+        limits = tight(literals, &step.limits);
+        found = step.found;
+        pace = step.pace;
+    }
+    found
+}
+
+/// How far above the low end of a variable's range the next part that is asked for ends.
+#[derive(Clone, Copy)]
+struct Pace {
+    variable: usize,
+    step: i64,
+}
+
+/// A smaller part in which the least vector lies, and a vector of it.
+#[derive(Drop)]
+struct Narrowed {
+    limits: Part,
+    found: Vector,
+    pace: Pace,
+}
+
+/// A part in which each vector of this one lies on which every literal is as it says.
+fn tight(literals: &[Literal], part: &Part) -> Part
+    requires { IsShaped literals.now part.now }
+    ensures { IsTightened literals.now part.now result }
+{
+    match tightened(literals, part) {
+        Some(smaller) => smaller,
+        None => part.copy(),
+    }
+}
+
+/// One step: the range of the variable is cut off above the vector's number, or a lower part is asked for.
+fn step_of(
     alloc: Global,
     literals: &[Literal],
-    bounds: &Bounds,
     limits: &Part,
     vector: Vector,
-    near: bool,
-) -> Result<Vector, AllocError>
-    requires few { length literals.now ≤ 160 }
+    variable: usize,
+    pace: Pace,
+    relaxation: &mut Relaxation,
+) -> Narrowed
     requires shaped { IsShaped literals.now limits.now }
-    requires narrowed { IsNarrowed literals.now bounds.now limits.now vector }
-    ensures { IfOk result (λ v. IsLeast literals.now bounds.now v) }
+    requires inside { IsInRanges limits.now vector }
+    requires said { AreAsSaid literals.now vector }
+    requires wide { IsFirstWide limits.now variable }
+    ensures { IsStep literals.now limits.now vector result }
 {
-    let Some(variable) = first_wide(limits) else {
-        return Ok(vector);
-    };
     let (low, high) = limits.range(variable);
+    if let Some(lowest) = corner(alloc, literals, limits) {
+        let least = limits.below(variable, low);
+        return Narrowed {
+            limits: least,
+            found: lowest,
+            pace,
+        };
+    }
     let number = number_at(limits, &vector, variable);
     if number < high {
-        let lower = limits.below(variable, number);
-        return narrowed(alloc, literals, bounds, &lower, vector, near);
+        let shorter = limits.below(variable, number);
+        return Narrowed {
+            limits: shorter,
+            found: vector,
+            pace,
+        };
     }
-    let at = end_of_query(low, high, near);
+    let wish = wish_of(literals, limits, variable, low, pace, relaxation);
+    let at = end_of_query(low, high, wish);
+    let next = next_pace(variable, pace);
     let lower = limits.below(variable, at);
-    match decide_within(alloc, literals, &lower)? {
-        Answer::Point(found) => narrowed(alloc, literals, bounds, &lower, found, !near),
-        Answer::Refuted(_) => {
+    match seek(alloc, literals, &lower, relaxation) {
+        Some(found) => Narrowed {
+            limits: lower,
+            found,
+            pace: next,
+        },
+        None => {
             let upper = limits.above(variable, at);
-            narrowed(alloc, literals, bounds, &upper, vector, !near)
+            Narrowed {
+                limits: upper,
+                found: vector,
+                pace: next,
+            }
         }
+    }
+}
+
+/// Where a part that is asked for may well end: at first below the least value in the relaxation, then ever farther
+/// above the low end. It is a guess.
+fn wish_of(
+    literals: &[Literal],
+    limits: &Part,
+    variable: usize,
+    low: i64,
+    pace: Pace,
+    relaxation: &mut Relaxation,
+) -> i64 {
+    if pace.variable != variable {
+        return least_guess(literals, limits, variable, relaxation).wrapping_sub(1);
+    }
+    low.wrapping_add(pace.step)
+}
+
+fn next_pace(variable: usize, pace: Pace) -> Pace {
+    if pace.variable != variable {
+        return Pace { variable, step: 0 };
+    }
+    Pace {
+        variable,
+        step: pace.step.wrapping_mul(2).wrapping_add(1),
     }
 }
 
@@ -55,18 +160,20 @@ fn number_at(part: &Part, vector: &Vector, variable: usize) -> i64
     vector.as_slice()[variable]
 }
 
-/// The last number of the part of a range that is asked for: all but the last, or the lower half.
-fn end_of_query(low: i64, high: i64, near: bool) -> i64
+/// The last number of the part of a range that is asked for: the wish, between the low end and the middle.
+fn end_of_query(low: i64, high: i64, wish: i64) -> i64
     requires ranged { IsRange low high }
     requires wide { low <ℤ high }
     ensures from_low { low ≤ℤ result }
     ensures below_high { result <ℤ high }
 {
-    if near {
-        high - 1
-    } else {
-        low + (high - low) / 2
+    if wish < low {
+        return low;
     }
+    if high <= wish {
+        return low + (high - low) / 2;
+    }
+    wish
 }
 
 /// The first variable whose range has two numbers or more.

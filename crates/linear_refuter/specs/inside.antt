@@ -1,0 +1,6 @@
+-- What functions of this crate promise one another.
+pub mod Greatest
+pub mod Halving
+pub mod Decision
+pub mod Ends
+pub mod Looking

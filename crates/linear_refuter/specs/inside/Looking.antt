@@ -1,0 +1,15 @@
+-- What one look at a box shows, in a search for a vector.
+use Rattle.std.specs.Prelude.{ℤ, List}
+use Rattle.lin_form.specs.Range.{IsInRanges}
+use Rattle.lin_form.specs.Atom.{AreAsSaid}
+use Rattle.lin_form.specs.declared.literal.Literal.{Literal}
+use Rattle.linear_refuter.specs.Answer.{HasNone}
+use Rattle.linear_refuter.specs.TightPart.{IsTightened, lows}
+use Rattle.linear_refuter.specs.declared.seeking.Look.{Look}
+use Rattle.linear_refuter.specs.declared.seeking.Look.TheVariants.{Empty, Found, Open}
+
+-- no vector, one, or a tightened part whose least vector is none
+abbrev pub IsLook : List Literal → List (ℤ × ℤ) → Look → Type 0
+IsLook literals box Empty = HasNone literals box
+IsLook literals box (Found vector) = IsInRanges box vector × AreAsSaid literals vector
+IsLook literals box (Open part variable) = IsTightened literals box part × (AreAsSaid literals (lows part) → ⊥)
