@@ -5,4 +5,7 @@ pub use Rattle.subject.proofs.Witnesses.{witness-acts, word-acts, answers-witnes
 pub use Rattle.subject.proofs.Lifting.{stable, from_mere, by_classes, equal_from, lead_alike_from}
 pub use Rattle.subject.proofs.Ranks.{alike-in_witnesses, few_apart, rank_within, more_states, most_over_witnesses, most_from_witnesses, rank_from_witnesses}
 pub use Rattle.subject.proofs.Failures.{passes_or_fails, excludes, one_failure}
-pub use Rattle.subject.proofs.Method.{IsProbed, equal_by_own, equal_by_tests, equal_inside, tests_complete}
+pub use Rattle.subject.proofs.Method.{IsProbed, HasMethod, equal_by_own, equal_by_tests, equal_inside, method_decides, own_method, tests_decide}
+pub use Rattle.subject.proofs.ReachedStates.{reached_word, reached_start, leads_on, reached_step, reached_more, holds_where_reached}
+pub use Rattle.subject.proofs.Acting.{acts-over_witnesses, acts-after_words}
+pub use Rattle.subject.proofs.Covering.{decide_same, cover_rank}

@@ -78,7 +78,7 @@ module _ (sg : Signature) (ranged : ranges_of sg.inputs ≡ (pos 0, pos 2) ∷ [
 
   -- 1 acts like 2
   pub presses_alike : ActsLike s m (pressed 1) (pressed 2)
-  presses_alike = same_steps-act m s (pressed 1) (pressed 2) (λ z h. h.inside) (λ t _. (same_next _ _ t, same_reply _ _))
+  presses_alike = same_steps-act m s (pressed 1) (pressed 2) (λ t _. (same_next _ _ t, same_reply _ _))
 
   -- 0 does not act like 1
   pub presses_apart : ActsLike s m (pressed 0) (pressed 1) → ⊥

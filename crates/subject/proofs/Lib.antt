@@ -1,10 +1,14 @@
 pub mod Words
+pub mod ReachedStates
 pub mod Witnesses
 pub mod Lifting
 pub mod Ranks
 pub mod Failures
 pub mod Growing
 pub mod Method
+pub mod Acting
+pub mod Parting
+pub mod Covering
 pub mod Lamp
 pub mod Silent
 pub mod CallerLemmas

@@ -18,7 +18,7 @@ use Rattle.input_classes.specs.Partition.{Covers, IsInClass, witnesses}
 use Rattle.subject.specs.Meaning.{Meaning, answer_from, answer, state_after}
 use Rattle.subject.specs.Tests.{AnswersTest}
 use Rattle.input_classes.specs.VectorSet.{VectorSet, Members, IsIn, Word, IsWordOf}
-use Rattle.subject.proofs.Method.{tests_complete}
+use Rattle.subject.proofs.Method.{all_marks_are_own, tests_decide}
 use Rattle.subject.proofs.Words.{after-state}
 
 only : (x : List ℤ) → IsInRanges ((pos 0, pos 0) ∷ []) x → x ≡ pressed 0
@@ -101,7 +101,8 @@ module _ (sg : Signature) (ranged : ranges_of sg.inputs ≡ (pos 0, pos 0) ∷ [
 
   -- one press is enough
   pub enough : Complete m one_class 1 one_press
-  enough = tests_complete m one_class 1 ([] ∷ []) ([] ∷ []) one_press covers (omega arith) cover_and_marks products answered
+  enough f =
+      tests_decide m one_class 1 (plan_of_map f) one_press (all_marks_are_own m one_class 1 ([] ∷ []) ([] ∷ []) one_press covers (omega arith) cover_and_marks products answered)
 
   abbrev loud : FiniteMap
   loud = record { signature = sg; entries = entry 0 0 0 5 ∷ [] }

@@ -1,11 +1,10 @@
 -- Answers to words, part by part.
-use Rattle.std.proofs.Common.{◌≡◌, ℕ, suc, ◌+◌, ◌<◌, ℤ, List, [], ◌∷◌, ◌++◌, length, take, drop, get_or, refl, sym, ap, ◌∙◌}
+use Rattle.std.proofs.Common.{◌≡◌, ℕ, zero, suc, ◌+◌, ◌<◌, ℤ, List, [], ◌∷◌, ◌++◌, length, take, drop, get_or, refl, sym, ap, ◌∙◌}
 use Rattle.std.proofs.lemmas.List.{take_more}
-use Rattle.std.proofs.Math.Seq.{drop-append_seam}
-use Rattle.std.proofs.lemmas.List.Elements.{All-cons, All-weaker}
-use Rattle.lin_form.specs.Signature.{IsInInputRanges}
+use Rattle.std.proofs.Math.Seq.{drop-append_seam, take-append_seam}
+use Rattle.std.proofs.lemmas.List.Elements.{All-cons}
 use Rattle.subject.specs.Alike.{LeadAlike, ActsLike}
-use Rattle.subject.specs.Meaning.{Meaning, state_after, answer_from, answer, after, IsReached}
+use Rattle.subject.specs.Meaning.{Meaning, state_after, answer_from, answer, after, IsReachedOn}
 use Rattle.input_classes.specs.VectorSet.{VectorSet, IsIn, Word}
 
 module _ {S : Type 0} (m : Meaning S) where
@@ -58,6 +57,26 @@ module _ {S : Type 0} (m : Meaning S) where
   pub moved_more : (w : Word) (i : ℕ) (x : List ℤ) (s t : S) → i < length w → x ≡ get_or w i x → s ≡ state_after m m.start (take i w) → t ≡ m.next s x → t ≡ state_after m m.start (take (i + 1) w)
   moved_more w i x s t below is at given = given ∙ ap (λ r. m.next r x) at ∙ sym (state_after-more w i x below is)
 
+  -- the answer to the front of a word
+  pub answer-front : (u v : Word) → take (length u) (answer m (u ++ v)) ≡ answer m u
+  answer-front u v =
+      ap (take (length u)) (answer-after u v) ∙ ap (λ n. take n (answer m u ++ after m u v)) (sym (length-answer_from m.start u)) ∙ take-append_seam (answer m u) (after m u v)
+
+  pub answer_from-take : (t : S) (w : Word) (k : ℕ) → answer_from m t (take k w) ≡ take k (answer_from m t w)
+  answer_from-take t w zero = refl
+  answer_from-take t [] (suc k) = refl
+  answer_from-take t (x ∷ w) (suc k) = ap (λ l. m.reply t x ∷ l) (answer_from-take (m.next t x) w k)
+
+  -- a reply, and the replies after it
+  pub after-cons : (u : Word) (x : List ℤ) (v : Word) → after m u (x ∷ v) ≡ after m u (x ∷ []) ++ after m (u ++ x ∷ []) v
+  after-cons u x v =
+      after-state u (x ∷ v)
+      ∙ ap (λ t. m.reply (state_after m m.start u) x ∷ answer_from m t v) (sym (state_after-push u x))
+      ∙ sym (λ j. after-state u (x ∷ []) j ++ after-state (u ++ x ∷ []) v j)
+
+  pub after-none : (u : Word) → after m u [] ≡ []
+  after-none u = after-state u []
+
   -- words that lead alike still do after one more vector
   pub alike-goes_on : (s : VectorSet) (u w : Word) (x : List ℤ) → IsIn s x → LeadAlike s m u w → LeadAlike s m (u ++ x ∷ []) (w ++ x ∷ [])
   alike-goes_on s u w x h alike v k =
@@ -70,10 +89,10 @@ module _ {S : Type 0} (m : Meaning S) where
       later-state a y z = ap (λ t. answer_from m t z) (state_after-push a y)
 
   -- vectors with the same next state and reply in every state that is reached
-  pub same_steps-act : (s : VectorSet) (x y : List ℤ) → ((z : List ℤ) → IsIn s z → IsInInputRanges m.signature.inputs z) → ((t : S) → IsReached m t → (m.next t x ≡ m.next t y) × (m.reply t x ≡ m.reply t y)) → ActsLike s m x y
-  same_steps-act s x y within same u v p q =
+  pub same_steps-act : (s : VectorSet) (x y : List ℤ) → ((t : S) → IsReachedOn s m t → (m.next t x ≡ m.next t y) × (m.reply t x ≡ m.reply t y)) → ActsLike s m x y
+  same_steps-act s x y same u v p q =
       let t = state_after m m.start u in
-      let here = same t ∣ record { word = u; in_ranges = All-weaker (IsIn s) (IsInInputRanges m.signature.inputs) within u p; leads = refl } ∣₁ in
+      let here = same t ∣ record { word = u; is_word = p; leads = refl } ∣₁ in
       answer_from-append m.start u (x ∷ v)
       ∙ ap (λ l. answer m u ++ l) (λ i. here.1 i ∷ answer_from m (here.0 i) v)
       ∙ sym (answer_from-append m.start u (y ∷ v))

@@ -28,16 +28,17 @@ pub record HasLikeClass {S T : Type 0} (s : VectorSet) (r : Partition) (m : Mean
 abbrev pub ActByClasses : {S T : Type 0} → VectorSet → Partition → Meaning S → Meaning T → Type 0
 ActByClasses s r m i = (x : List ℤ) → IsIn s x → ∥ HasLikeClass s r m i x ∥₁
 
--- the box of the model m with the partition r
+-- the box of a model with a partition: the vectors of the model's ranges on which the partition's literals are as said
 abbrev pub box : {S : Type 0} → Meaning S → Partition → VectorSet
 box m r = box_of m.signature r.assumed
 
--- the plan i lies inside the fault domain of the model m with the partition r and the bound n
-pub record Inside {S T : Type 0} (m : Meaning S) (r : Partition) (n : ℕ) (i : Meaning T) : Type 0 where
-  pub fits : IsFitting m.signature i.signature
-  pub states : HasAtMost (box m r) i n
-  pub classes : ActByClasses (box m r) r m i
+-- the other plan lies inside the fault domain of the model with the partition and the bound
+pub record Inside {S T : Type 0} (model : Meaning S) (partition : Partition) (bound : ℕ) (other : Meaning T) : Type 0 where
+  pub fits : IsFitting model.signature other.signature
+  pub states : HasAtMost (box model partition) other bound
+  pub classes : ActByClasses (box model partition) partition model other
 
 -- the tests are complete: every finite map inside passes exactly when it answers every word of the box as the model does
 abbrev pub Complete : {S : Type 0} → Meaning S → Partition → ℕ → List TestCase → Type 0
-Complete m r n tests = (f : FiniteMap) → Inside m r n (plan_of_map f) → (Passes (answer (plan_of_map f)) tests ↔ Equal (box m r) (plan_of_map f) m)
+Complete model partition bound tests = (f : FiniteMap) → Inside model partition bound (plan_of_map f)
+    → (Passes (answer (plan_of_map f)) tests ↔ Equal (box model partition) (plan_of_map f) model)

@@ -1,9 +1,8 @@
 -- What a plan means, and what it answers.
 use Rattle.std.specs.Prelude.{◌≡◌, ℤ, List, [], ◌∷◌, ◌++◌, length, drop}
-use Rattle.std.specs.List.{All}
 use Rattle.lin_form.specs.declared.signature.Signature.{Signature}
 use Rattle.lin_form.specs.Signature.{IsInInputRanges}
-use Rattle.input_classes.specs.VectorSet.{Word}
+use Rattle.input_classes.specs.VectorSet.{VectorSet, Word, IsWordOf, box_of}
 
 -- a signature, a start, and for each state and vector of the signature's ranges a next state and a reply
 pub record Meaning (S : Type 0) : Type 0 where
@@ -30,12 +29,21 @@ answer m w = answer_from m m.start w
 abbrev pub after : {S : Type 0} → Meaning S → Word → Word → List (List ℤ)
 after m u v = drop (length u) (answer m (u ++ v))
 
--- a word of vectors of the signature's ranges that leads from the start to the state
-pub record LeadsTo {S : Type 0} (m : Meaning S) (s : S) : Type 0 where
+-- a word of the set that leads from the start to the state
+pub record LeadsTo {S : Type 0} (s : VectorSet) (m : Meaning S) (t : S) : Type 0 where
   pub word : Word
-  pub in_ranges : All (IsInInputRanges m.signature.inputs) word
-  pub leads : state_after m m.start word ≡ s
+  pub is_word : IsWordOf s word
+  pub leads : state_after m m.start word ≡ t
 
--- the state is reached from the start: there is such a word (`∥ A ∥₁` says that there is an A, and not which)
+-- the state is reached by words of the set: there is such a word (`∥ A ∥₁` says that there is an A, and not which)
+abbrev pub IsReachedOn : {S : Type 0} → VectorSet → Meaning S → S → Type 0
+IsReachedOn s m t = ∥ LeadsTo s m t ∥₁
+
+-- the state is reached by words of vectors of the signature's ranges
 abbrev pub IsReached : {S : Type 0} → Meaning S → S → Type 0
-IsReached m s = ∥ LeadsTo m s ∥₁
+IsReached m t = IsReachedOn (box_of m.signature []) m t
+
+-- each reply has one number for each output
+abbrev pub RepliesFit : {S : Type 0} → Meaning S → Type 0
+RepliesFit {S} m = (t : S) (x : List ℤ) → IsReached m t → IsInInputRanges m.signature.inputs x
+    → length (m.reply t x) ≡ length m.signature.outputs

@@ -1,5 +1,5 @@
 -- Tests, and what it means that they are passed: over the answers alone, a function from words to replies.
-use Rattle.std.specs.Prelude.{◌≡◌, ◌≢◌, ℕ, ◌+◌, ℤ, List, [], ◌∷◌, ◌++◌, length, take, Some, slice_get}
+use Rattle.std.specs.Prelude.{◌≡◌, ◌≢◌, ℕ, ◌+◌, ◌-◌, ℤ, List, [], ◌∷◌, ◌++◌, length, take, Some, slice_get, slice_index_or}
 use Rattle.std.specs.List.{All}
 use Rattle.input_classes.specs.VectorSet.{VectorSet, Word, IsWordOf}
 
@@ -46,6 +46,10 @@ pub record IsFirstFailure (answers : Answers) (tests : List TestCase) (failure :
   pub given : slice_get (answers failed.word) steps_before ≡ Some failure.given
   pub wanted : slice_get failed.replies steps_before ≡ Some expected
   pub differs : failure.given ≢ expected
+
+-- the word of a failure: the vectors of its test up to its step
+abbrev pub failed_word : List TestCase → Failure → Word
+failed_word tests failure = take failure.step (slice_index_or tests (failure.test - 1) (record { word = []; replies = [] })).word
 
 -- two answers to a word differ at its last vector and at no earlier one
 pub record PartAtLast (first second : Answers) (word : Word) : Type 0 where

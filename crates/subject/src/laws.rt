@@ -1,24 +1,46 @@
 //! What holds of every plan, of answers and of words. Each law is a function's contract; the function does nothing.
-ghost use Rattle.std.specs.Prelude.{◌≡◌, ◌⊎◌, ℕ, ℤ, ◌+◌, ◌-◌, ◌≤◌, ◌++◌, [], ◌∷◌, List, length};
+ghost use Rattle.std.specs.Prelude.{◌≡◌, ◌⊎◌, ◌↔◌, ℕ, ℤ, ◌+◌, ◌-◌, ◌≤◌, ◌++◌, [], ◌∷◌, List, length};
 ghost use Rattle.std.specs.List.{All, AllPairs};
 ghost use Rattle.lin_form.specs.declared.literal.Literal.{Literal};
-ghost use Rattle.lin_form.specs.Signature.{IsInInputRanges};
-ghost use Rattle.subject.specs.Alike.{ActsLike, Equal, HasAtMost, HasRank, LeadAlike, LeadDifferently};
-ghost use Rattle.subject.specs.Domain.{ActByClasses, Complete, Inside, box};
-ghost use Rattle.subject.specs.Meaning.{IsReached, after, answer, answer_from, state_after};
-ghost use Rattle.subject.specs.Method.{AreCoverAndMarks, HaveProducts, IsAnswered, IsTested};
-ghost use Rattle.input_classes.specs.Partition.{Covers, Partition, in_witnesses, witnesses};
-ghost use Rattle.subject.specs.Alike.{MembersActAlike};
-ghost use Rattle.subject.specs.Tests.{Answers, Failure, IsFirstFailure, Passes, TestCase};
+ghost use Rattle.lin_form.specs.Signature.{IsInInputRanges, ranges_of};
+ghost use Rattle.input_classes.specs.Partition.{Covers, IsPartition, Partition, in_witnesses, witness_of, witnesses};
 ghost use Rattle.input_classes.specs.VectorSet.{IsIn, IsWordOf, Members, VectorSet, Word, box_of};
+ghost use Rattle.subject.specs.Alike.{ActsLike, Equal, HasAtMost, HasRank, LeadAlike, LeadDifferently, MembersActAlike};
+ghost use Rattle.subject.specs.Domain.{ActByClasses, Complete, Inside, IsFitting, box};
+ghost use Rattle.subject.specs.Meaning.{IsReached, IsReachedOn, after, answer, answer_from, state_after};
+ghost use Rattle.subject.specs.Method.{AreCoverAndMarks, AreMethodTests, HaveProducts, IsAnswered, IsTested};
+ghost use Rattle.subject.specs.Tests.{Answers, Failure, IsFirstFailure, PartAtLast, Passes, TestCase, failed_word};
 
 use crate::Plan;
 use lin_form::Signature;
 
-/// Every word of a box is a word of the ranges.
+/// Every word of a box is a word of the ranges, also of a signature that fits.
 pub fn box_lies_in_ranges(signature: &Signature)
-    ensures { (assumed : List Literal) (w : Word) → IsWordOf (box_of signature.now assumed) w
+    ensures own { (assumed : List Literal) (w : Word) → IsWordOf (box_of signature.now assumed) w
         → All (IsInInputRanges signature.now.inputs) w }
+    ensures fitting { (other : Signature) (assumed : List Literal) (w : Word) → IsFitting signature.now other
+        → IsWordOf (box_of signature.now assumed) w → All (IsInInputRanges other.inputs) w }
+{}
+
+/// A partition whose ranges are a plan's covers the plan's box.
+pub fn partition_covers_the_box<P: Plan>(plan: &P)
+    ensures { let m = P.plan plan.now in
+        (r : Partition) → IsPartition r → r.ranges ≡ ranges_of m.signature.inputs → Covers (box m r) r }
+{}
+
+/// The start is reached, and so are the state after a step from a state that is reached and that after a word. What is
+/// reached on a set is reached on a larger one.
+pub fn reaching<P: Plan>(plan: &P)
+    ensures start { let m = P.plan plan.now in (s : VectorSet) → IsReachedOn s m m.start }
+    ensures step { let m = P.plan plan.now in
+        (s : VectorSet) (t : P.State) (x : List ℤ) → IsReachedOn s m t → IsIn s x → IsReachedOn s m (m.next t x) }
+    ensures word { let m = P.plan plan.now in
+        (s : VectorSet) (w : Word) → IsWordOf s w → IsReachedOn s m (state_after m m.start w) }
+    ensures more { let m = P.plan plan.now in
+        (s larger : VectorSet) (t : P.State) → ((x : List ℤ) → IsIn s x → IsIn larger x)
+        → IsReachedOn s m t → IsReachedOn larger m t }
+    ensures in_ranges { let m = P.plan plan.now in
+        (t : P.State) (x : List ℤ) → IsReached m t → IsInInputRanges m.signature.inputs x → IsReached m (m.next t x) }
 {}
 
 /// The replies to `u` and then `v` are those to `u` and then those after `u`, one for each vector of `v`: the replies
@@ -51,8 +73,24 @@ pub fn leading_alike<P: Plan>(plan: &P)
 /// Two vectors with the same next state and the same reply in every state that is reached act alike.
 pub fn same_steps_act_alike<P: Plan>(plan: &P)
     ensures { let m = P.plan plan.now in
-        (s : VectorSet) (x y : List ℤ) → ((z : List ℤ) → IsIn s z → IsInInputRanges m.signature.inputs z)
-        → ((t : P.State) → IsReached m t → (m.next t x ≡ m.next t y) × (m.reply t x ≡ m.reply t y)) → ActsLike s m x y }
+        (s : VectorSet) (x y : List ℤ)
+        → ((t : P.State) → IsReachedOn s m t → (m.next t x ≡ m.next t y) × (m.reply t x ≡ m.reply t y))
+        → ActsLike s m x y }
+{}
+
+/// A vector acts like itself, acting alike is symmetric, and it passes on. Two vectors act alike exactly where their
+/// witnesses do over words of witnesses, and exactly where after each word they get the same reply and lead alike.
+pub fn acting_alike<P: Plan>(plan: &P)
+    ensures itself { let m = P.plan plan.now in (s : VectorSet) (x : List ℤ) → ActsLike s m x x }
+    ensures turned { let m = P.plan plan.now in (s : VectorSet) (x y : List ℤ) → ActsLike s m x y → ActsLike s m y x }
+    ensures passed_on { let m = P.plan plan.now in
+        (s : VectorSet) (x y z : List ℤ) → ActsLike s m x y → ActsLike s m y z → ActsLike s m x z }
+    ensures witnesses { let m = P.plan plan.now in
+        (s : VectorSet) (r : Partition) (x y : List ℤ) → Covers s r → MembersActAlike s r m → IsIn s x → IsIn s y
+        → (ActsLike s m x y ↔ ActsLike (Members (witnesses r)) m (witness_of r x) (witness_of r y)) }
+    ensures after_words { let m = P.plan plan.now in
+        (s : VectorSet) (x y : List ℤ) → (ActsLike s m x y ↔ ((u : Word) → IsWordOf s u
+        → (after m u (x ∷ []) ≡ after m u (y ∷ [])) × LeadAlike s m (u ++ x ∷ []) (u ++ y ∷ []))) }
 {}
 
 /// Words that cannot lead differently lead alike, and plans that cannot but be equal are equal.
@@ -138,14 +176,32 @@ pub fn tested_plan_inside_is_equal<P: Plan, Q: Plan>(model: &P, other: &Q)
         → IsTested (Members (witnesses r)) m i cover marks (n - length cover) → Equal (box m r) i m }
 {}
 
-/// Tests that have the products of a state cover, words of at most one vector more than the bound leaves, and a
-/// characterisation set, over the witnesses, with the model's replies, are complete.
-pub fn tests_are_complete<P: Plan>(model: &P)
+/// The words of a state cover with a characterisation set are as many as the rank.
+pub fn cover_is_rank<P: Plan>(plan: &P)
+    ensures { let m = P.plan plan.now in
+        (s : VectorSet) (cover marks : List Word) → AreCoverAndMarks s m cover marks → HasRank s m (length cover) }
+{}
+
+/// The W-method as the Wp-method in which all marks are the own marks of each word of the cover.
+pub fn all_marks_are_own<P: Plan>(model: &P)
     ensures { let m = P.plan model.now in
         (r : Partition) (n : ℕ) (cover marks : List Word) (tests : List TestCase) → Covers (box m r) r → length cover ≤ n
         → AreCoverAndMarks (Members (witnesses r)) m cover marks
         → HaveProducts (Members (witnesses r)) cover marks (n - length cover) tests
-        → All (IsAnswered (box m r) m) tests → Complete m r n tests }
+        → All (IsAnswered (box m r) m) tests → AreMethodTests m r n tests }
+{}
+
+/// A plan inside the fault domain passes the tests of the method exactly where it is equal to the model.
+pub fn tests_decide<P: Plan, Q: Plan>(model: &P, other: &Q)
+    ensures { let m = P.plan model.now in let i = Q.plan other.now in
+        (r : Partition) (n : ℕ) (tests : List TestCase) → AreMethodTests m r n tests → Inside m r n i
+        → (Passes (answer i) tests ↔ Equal (box m r) i m) }
+{}
+
+/// The tests of the method are complete.
+pub fn tests_are_complete<P: Plan>(model: &P)
+    ensures { let m = P.plan model.now in
+        (r : Partition) (n : ℕ) (tests : List TestCase) → AreMethodTests m r n tests → Complete m r n tests }
 {}
 
 /// Answers with one reply per vector pass all tests or have one first failure, and not both.
@@ -157,4 +213,18 @@ pub fn verdict_is_one()
         → Passes answers tests → ⊥ }
     ensures one { (answers : Answers) (tests : List TestCase) (f g : Failure) → IsFirstFailure answers tests f
         → IsFirstFailure answers tests g → f ≡ g }
+{}
+
+/// A first failure of a plan on tests with the model's replies shows a word of their set to which the two answers differ
+/// at the last vector and at no earlier one, so the plans are not equal.
+pub fn failure_shows_a_difference<P: Plan, Q: Plan>(model: &P, other: &Q)
+    ensures word { let m = P.plan model.now in let i = Q.plan other.now in
+        (s : VectorSet) (tests : List TestCase) (failure : Failure) → All (IsAnswered s m) tests
+        → IsFirstFailure (answer i) tests failure → IsWordOf s (failed_word tests failure) }
+    ensures parts { let m = P.plan model.now in let i = Q.plan other.now in
+        (s : VectorSet) (tests : List TestCase) (failure : Failure) → All (IsAnswered s m) tests
+        → IsFirstFailure (answer i) tests failure → PartAtLast (answer i) (answer m) (failed_word tests failure) }
+    ensures unequal { let m = P.plan model.now in let i = Q.plan other.now in
+        (s : VectorSet) (tests : List TestCase) (failure : Failure) → All (IsAnswered s m) tests
+        → IsFirstFailure (answer i) tests failure → Equal s i m → ⊥ }
 {}
