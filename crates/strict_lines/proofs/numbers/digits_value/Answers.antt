@@ -1,0 +1,11 @@
+use Rattle.std.proofs.Common.{ℕ, ◌+◌, List, drop, get_or, subst}
+use Rattle.std.proofs.lemmas.List.{drop_more}
+use Rattle.strict_lines.specs.Numbers.{most}
+use Rattle.strict_lines.proofs.Counting.{IsCounted, counted_over}
+use Rattle.strict_lines.proofs.numbers.digits_value.Goals as goal
+
+pub returns-then-value-gt1000000000000 : goal.returns-then-value-gt1000000000000
+returns-then-value-gt1000000000000 c =
+    let i : ℕ = c.loop-digit.digit-index in
+    let P : List ℕ → Type 0 = λ ds. IsCounted c.args.digits.now ds c.loop-digit.value most in
+    counted_over c.args.digits.now (get_or c.args.digits.now i 0) (drop (i + 1) c.args.digits.now) c.loop-digit.value most (subst P (drop_more c.args.digits.now i 0 c.loop-digit-test.true) c.loop-digit.invariant) c.if-value-gt1000000000000.true

@@ -1,0 +1,4 @@
+pub mod Suite
+pub mod Pooled
+pub mod Scratch
+pub mod Text
