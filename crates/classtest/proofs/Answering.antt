@@ -3,11 +3,11 @@ use Rattle.std.proofs.Common.{◌≡◌, ℕ, ◌+◌, ◌<◌, ◌≤◌, Bool,
 use Rattle.std.specs.Prelude.{nat_lt, MatchBool, IsSome, IsSomeAnd, replicate}
 use Rattle.std.proofs.lemmas.Bool.Decides.{nat_tests}
 use Rattle.std.proofs.lemmas.List.{length-replicate}
-use Rattle.test_world.specs.declared.reading.LoadError.{LoadError}
-use Rattle.test_world.specs.declared.reading.LoadError.TheVariants as load_error
-use Rattle.test_world.specs.Count.{Rose}
-use Rattle.test_world.specs.Shelf.{Showing, HasName, Keeps}
-use Rattle.test_world.specs.Load.{Holds, HoldsMoreThan}
+use Rattle.first_world.specs.declared.reading.LoadError.{LoadError}
+use Rattle.first_world.specs.declared.reading.LoadError.TheVariants as load_error
+use Rattle.first_world.specs.Count.{Rose}
+use Rattle.first_world.specs.Shelf.{Showing, HasName, Keeps}
+use Rattle.first_world.specs.Load.{Holds, HoldsMoreThan}
 use Rattle.chart_model.specs.declared.chart.Chart.{Chart}
 use Rattle.chart_syntax.specs.declared.error.Refusal as text_error
 use Rattle.chart_syntax.specs.Reading.{Reads, Refuses, IsDecided}

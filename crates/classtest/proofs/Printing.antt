@@ -4,8 +4,8 @@ use Rattle.std.specs.List.{flat_map, All}
 use Rattle.std.proofs.lemmas.List.{drop_more, append-nil}
 use Rattle.std.proofs.lemmas.List.Elements.{All-weaker}
 use Rattle.std.proofs.Math.ListN.{drop_of_length-le}
-use Rattle.test_world.specs.Sink.{Grows, GrowsByPrefix}
-use Rattle.test_world.proofs.Growing.{grows_by_both, grows_by_nothing, prefix_after, prefix_before}
+use Rattle.first_world.specs.Sink.{Grows, GrowsByPrefix}
+use Rattle.first_world.proofs.Growing.{grows_by_both, grows_by_nothing, prefix_after, prefix_before}
 use Rattle.lin_form.specs.Signature.{IsInInputRanges}
 use Rattle.chart_model.specs.declared.chart.Chart.{Chart}
 use Rattle.chart_meaning.specs.Configuration.{Configuration}

@@ -1,7 +1,7 @@
 -- Three pieces put one after another.
 use Rattle.std.proofs.Common.{◌≡◌, ℕ, List, ◌++◌, Option, subst}
-use Rattle.test_world.specs.Sink.{Grows, GrowsByPrefix}
-use Rattle.test_world.proofs.Growing.{grows_by_both, prefix_after, prefix_before}
+use Rattle.first_world.specs.Sink.{Grows, GrowsByPrefix}
+use Rattle.first_world.proofs.Growing.{grows_by_both, prefix_after, prefix_before}
 
 pub all_three : (old after_label after_name new : Option (List ℕ)) (label name given rest : List ℕ) → given ≡ name → Grows old after_label label → Grows after_label after_name given → Grows after_name new rest → Grows old new (label ++ name ++ rest)
 all_three old after_label after_name new label name given rest same first second third =

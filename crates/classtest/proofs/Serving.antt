@@ -1,8 +1,8 @@
 -- What holds of a call, from what it did.
 use Rattle.std.proofs.Common.{◌≡◌, ℕ, List, Option, Some, None, refl, sym, ◌∙◌, subst, ◌⊎◌, inl, inr}
 use Rattle.std.specs.Prelude.{IsSome}
-use Rattle.test_world.specs.Count.{Rose}
-use Rattle.test_world.specs.Shelf.{Showing}
+use Rattle.first_world.specs.Count.{Rose}
+use Rattle.first_world.specs.Shelf.{Showing}
 use Rattle.classtest.specs.declared.refusal.Refusal.{Refusal}
 use Rattle.classtest.specs.declared.refusal.Refusal.TheVariants.{NoCommand, Fault, Limit, TooLong, ReadFault, WriteFault, NoMemory}
 use Rattle.classtest.specs.Report.{status_of}

@@ -1,7 +1,7 @@
 -- What the program answers to its words and the texts that a shelf holds: a refusal, or a status with a whole text.
 use Rattle.std.specs.Prelude.{◌≡◌, ℕ, ℤ, Bool, true, nat_lt, MatchBool, List, [], length, Option, Some, None, IsSome, ◌⊎◌, ◌||◌, ◌==◌}
-use Rattle.test_world.specs.Shelf.{Showing, HasName}
-use Rattle.test_world.specs.Load.{Holds}
+use Rattle.first_world.specs.Shelf.{Showing, HasName}
+use Rattle.first_world.specs.Load.{Holds}
 use Rattle.chart_model.specs.declared.chart.Chart.{Chart}
 use Rattle.chart_syntax.specs.declared.error.Refusal as text_error
 use Rattle.chart_syntax.specs.declared.error.Refusal.TheVariants as met

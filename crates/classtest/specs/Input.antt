@@ -1,10 +1,10 @@
 -- The texts of a command as they are read, and why one is not.
 use Rattle.std.specs.Prelude.{◌≡◌, ℕ, ℤ, ◌≤◌, List, length, Option, Some, ◌⊎◌}
-use Rattle.test_world.specs.declared.reading.LoadError.{LoadError}
-use Rattle.test_world.specs.declared.reading.LoadError.TheVariants as load_error
-use Rattle.test_world.specs.Count.{Rose}
-use Rattle.test_world.specs.Shelf.{Showing, HasName}
-use Rattle.test_world.specs.Load.{Holds}
+use Rattle.first_world.specs.declared.reading.LoadError.{LoadError}
+use Rattle.first_world.specs.declared.reading.LoadError.TheVariants as load_error
+use Rattle.first_world.specs.Count.{Rose}
+use Rattle.first_world.specs.Shelf.{Showing, HasName}
+use Rattle.first_world.specs.Load.{Holds}
 use Rattle.chart_model.specs.declared.chart.Chart.{Chart}
 use Rattle.chart_syntax.specs.Reading.{Reads}
 use Rattle.chart_syntax.specs.Words.{ReadsWord}

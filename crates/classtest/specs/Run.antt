@@ -1,8 +1,8 @@
 -- A call of the program: its answer is carried out, or the call departs from it for want of memory, a failed read or a failed write.
 use Rattle.std.specs.Prelude.{◌≡◌, ℕ, List, [], Option, Some, None, IsSome, ◌⊎◌}
-use Rattle.test_world.specs.Count.{Rose}
-use Rattle.test_world.specs.Shelf.{Showing}
-use Rattle.test_world.specs.Sink.{Grows, GrowsByPrefix}
+use Rattle.first_world.specs.Count.{Rose}
+use Rattle.first_world.specs.Shelf.{Showing}
+use Rattle.first_world.specs.Sink.{Grows, GrowsByPrefix}
 use Rattle.chart_syntax.specs.declared.error.ChartError.{ChartError}
 use Rattle.chart_syntax.specs.declared.error.ChartError.TheVariants as chart_error
 use Rattle.classtest.specs.declared.refusal.Refusal.{Refusal}

@@ -1,5 +1,5 @@
 ghost use Rattle.std.specs.Prelude.{◌≡◌, ◌≤◌, IfErr, IfOk, OnErr, map, string_bytes};
-ghost use Rattle.test_world.specs.Shelf.{HasName, Keeps};
+ghost use Rattle.first_world.specs.Shelf.{HasName, Keeps};
 ghost use Rattle.chart_syntax.specs.Words.{IsInBox};
 ghost use Rattle.classtest.specs.Command.{word_at};
 ghost use Rattle.classtest.specs.Answer.{AnswersText, AnswersChart, AnswersWord, HoldsNames};
@@ -13,7 +13,7 @@ use chart_meaning::ChartPlan;
 use chart_syntax::{Chart, ChartError, read_chart, read_word};
 use lin_form::Vector;
 use std::alloc::Global;
-use test_world::{LoadError, Shelf, load};
+use first_world::{LoadError, Shelf, load};
 
 /// How many bytes a chart or a word may have.
 const MOST_BYTES: usize = 262_144;

@@ -1,6 +1,6 @@
 //! What holds of every answer. The law is a function's contract; the function does nothing.
 ghost use Rattle.std.specs.Prelude.{ℕ, List};
-ghost use Rattle.test_world.specs.Shelf.{Showing};
+ghost use Rattle.first_world.specs.Shelf.{Showing};
 ghost use Rattle.classtest.specs.Answer.{IsAnswered};
 
 use chart_syntax::{chart_or_refusal, word_or_refusal};

@@ -1,13 +1,13 @@
 ghost use Rattle.std.specs.Prelude.{◌≡◌, ◌≤◌, All, OnOk, OnErr};
 ghost use Rattle.lin_form.specs.Signature.{IsInInputRanges};
-ghost use Rattle.test_world.specs.Count.{Rose};
-ghost use Rattle.test_world.specs.Sink.{Grows, GrowsByPrefix};
+ghost use Rattle.first_world.specs.Count.{Rose};
+ghost use Rattle.first_world.specs.Sink.{Grows, GrowsByPrefix};
 ghost use Rattle.classtest.specs.Play.{play_text};
 
 use crate::line::Line;
 use chart_meaning::ChartPlan;
 use lin_form::Vector;
-use test_world::{Fault, Sink, put_all};
+use first_world::{Fault, Sink, put_all};
 
 /// Puts the plan's replies to the word, one line for each step. It takes no memory.
 pub fn print_replies<K: Sink>(plan: &ChartPlan, word: &[Vector], out: &mut K) -> Result<(), Fault>

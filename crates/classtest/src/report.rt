@@ -1,6 +1,6 @@
 ghost use Rattle.std.specs.Prelude.{◌≡◌, ◌≤◌, OnOk, OnErr, map, string_bytes};
-ghost use Rattle.test_world.specs.Count.{Rose};
-ghost use Rattle.test_world.specs.Sink.{Grows, GrowsByPrefix};
+ghost use Rattle.first_world.specs.Count.{Rose};
+ghost use Rattle.first_world.specs.Sink.{Grows, GrowsByPrefix};
 ghost use Rattle.classtest.specs.Report.{about, err_line};
 ghost use Rattle.classtest.specs.Put.{IsPut};
 
@@ -8,7 +8,7 @@ use crate::command::word_at;
 use crate::line::Line;
 use crate::refusal::{Refusal, kind_word, limit_word};
 use chart_syntax::{Kind, Which};
-use test_world::{Fault, Sink, put_all};
+use first_world::{Fault, Sink, put_all};
 
 /// What each line on `err` begins with.
 const LABEL: &[u8] = b"classtest: ";

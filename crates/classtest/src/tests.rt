@@ -1,6 +1,6 @@
 //! Calls of the program over texts in memory: the status, and what is put to `out` and `err`.
 ghost use Rattle.std.specs.Prelude.{◌<◌, All, IfOk};
-ghost use Rattle.test_world.specs.Count.{greatest_count};
+ghost use Rattle.first_world.specs.Count.{greatest_count};
 
 use crate::refusal::{kind_word, limit_word};
 use crate::top::classtest;
@@ -8,7 +8,7 @@ use chart_syntax::{Kind, Which};
 use std::alloc::{AllocError, Global};
 use std::process::Abort;
 use std::test::Fail;
-use test_world::{MemShelf, MemSink};
+use first_world::{MemShelf, MemSink};
 
 const CHART: &str =
     "chart 1\ninput v 0 10\noutput alarm 0\nstate Low start\nstate High\non Low when v >= 8 do alarm = 1 go High\non High when v <= 5 do alarm = 0 go Low\n";

@@ -1,5 +1,5 @@
 ghost use Rattle.std.specs.Prelude.{◌≡◌, ◌≤◌, ◌↔◌, None, map, string_bytes, IfErr, MatchResult};
-ghost use Rattle.test_world.specs.Shelf.{Keeps};
+ghost use Rattle.first_world.specs.Shelf.{Keeps};
 ghost use Rattle.classtest.specs.Command.{command_of};
 ghost use Rattle.classtest.specs.Answer.{HoldsNames};
 ghost use Rattle.classtest.specs.Run.{Call, Run, HasCause, IsDone, IsServed};
@@ -12,7 +12,7 @@ use crate::play::print_replies;
 use crate::refusal::Refusal;
 use crate::report::report;
 use std::alloc::Global;
-use test_world::{Shelf, Sink};
+use first_world::{Shelf, Sink};
 
 fn play<F: Shelf, K: Sink>(
     alloc: Global,

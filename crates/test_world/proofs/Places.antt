@@ -8,7 +8,7 @@ use Rattle.std.proofs.lemmas.List.Folds.{find_at}
 use Rattle.std.proofs.lemmas.Option.{slice_get-get_or, slice_get_past}
 use Rattle.std.proofs.lemmas.Slice.Eq.{bytes_eq-Decides}
 use Rattle.test_world.specs.Shelf.{Current}
-use Rattle.test_world.specs.Memory.{named_texts, held_in, whole_text, current_at, IsPlaced}
+use Rattle.test_world.specs.Memory.{named_texts, bytes_in, whole_text, current_at, IsPlaced}
 
 -- a whole text, as the current one
 abbrev from_start : List ℕ × List ℕ → Current
@@ -52,7 +52,7 @@ first_place name texts =
 -- a place that was looked for has the whole text of the name, or there is neither
 pub record IsFound (texts : List (List ℕ × List ℕ)) (name : List ℕ) (place : Option ℕ) : Type 0 where
   pub whole : current_at texts place 0 ≡ whole_text texts name
-  pub variant : is_some place ≡ is_some (held_in texts name)
+  pub variant : is_some place ≡ is_some (bytes_in texts name)
   pub placed : IsPlaced texts place 0
 
 pub found : (name : List ℕ) (texts : List (String Global × Vec ℕ Global)) (place : Option ℕ) → place ≡ position (λ text. bytes_eq (string_bytes text.0) name) texts → IsFound (named_texts texts) name place

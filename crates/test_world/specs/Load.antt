@@ -1,18 +1,18 @@
--- What a text that was read in has to do with what its shelf holds.
-use Rattle.std.specs.Prelude.{◌≡◌, ℕ, ◌<◌, ◌≤◌, List, length, Option, Some, None, IsSomeAnd}
-use Rattle.test_world.specs.Shelf.{Showing}
+-- What a call answers that reads a whole text.
+use Rattle.std.specs.Prelude.{◌≡◌, ℕ, ◌≤◌, List, length, Result, Ok, Err}
+use Rattle.test_world.specs.declared.reading.LoadError.{LoadError}
+use Rattle.test_world.specs.declared.reading.LoadError.TheVariants.{Fault, TooLong, Memory}
+use Rattle.test_world.specs.Count.{Rose}
+use Rattle.test_world.specs.Shelf.{ShelfState, held_of, Holds, HoldsMoreThan, IsAtEnd}
 
--- these are the bytes held under the name, where the shelf tells them
-abbrev pub Holds : Option Showing → List ℕ → List ℕ → Type 0
-Holds None name bytes = Unit {0}
-Holds (Some showing) name bytes = showing.held name ≡ Some bytes
+-- the whole text was read, which is at most so long; or a call failed; or more is held; or there was no memory
+abbrev pub Loads : ShelfState → ShelfState → List ℕ → ℕ → Result (List ℕ) LoadError → Type 0
+Loads before after name most (Ok text) = Holds (held_of before) name text × (length text ≤ most) × IsAtEnd after.shown
+Loads before after name most (Err Fault) = Rose before.faults after.faults
+Loads before after name most (Err TooLong) = HoldsMoreThan (held_of before) name most
+Loads before after name most (Err Memory) = Unit {0}
 
--- a text of at most `most` bytes is held under the name, where the shelf tells it
-abbrev pub HoldsAtMost : Option Showing → List ℕ → ℕ → Type 0
-HoldsAtMost None name most = Unit {0}
-HoldsAtMost (Some showing) name most = IsSomeAnd (showing.held name) (λ bytes. length bytes ≤ most)
-
--- a text of more than `most` bytes is held under the name, where the shelf tells it
-abbrev pub HoldsMoreThan : Option Showing → List ℕ → ℕ → Type 0
-HoldsMoreThan None name most = Unit {0}
-HoldsMoreThan (Some showing) name most = IsSomeAnd (showing.held name) (λ bytes. most < length bytes)
+-- a fault is the error
+abbrev pub IsFault : Result (List ℕ) LoadError → Type 0
+IsFault (Err Fault) = Unit {0}
+IsFault other = ⊥

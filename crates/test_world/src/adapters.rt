@@ -3,10 +3,11 @@ ghost use Rattle.std.specs.Prelude.{◌≡◌, ◌<◌, ◌≤◌, length, OnOk,
 ghost use Rattle.test_world.specs.Count.{raised};
 
 use crate::count::failed;
+use crate::holding::{HoldingWriter, MOST_HELD};
 use crate::shelf::{Fault, Shelf};
 use crate::sink::Sink;
 use std::fs::File;
-use std::io::{Input, Read, Stderr, Stdout, Write};
+use std::io::{self, Input, Read, Stderr, Stdout, Write};
 use std::marker::Model;
 use std::rt::Files;
 
@@ -48,13 +49,9 @@ impl<R: Files + Input> FileShelf<R> {
 }
 
 impl<R: Files + Input> Shelf for FileShelf<R> {
-    ghost use Rattle.std.specs.Prelude.{None};
+    ghost use Rattle.std.specs.Prelude.{None, false};
 
-    ghost shown = { λ _. None };
-
-    ghost faults = { λ faults. faults };
-
-    ghost sound = { λ _. ⊥ };
+    ghost state = { λ faults. record { shown = None; visited = None; faults = faults; sound = false } };
 
     fn take_up(&mut self, name: &str) -> Result<(), Fault>
         ensures ok { OnOk result (self.new ≡ self.old) }
@@ -96,12 +93,25 @@ enum Stream {
     Error(Stderr),
 }
 
+impl Write for Stream {
+    fn write(&mut self, buf: &[u8]) -> io::Result<usize> {
+        match self {
+            Stream::Output(stdout) => stdout.write(buf),
+            Stream::Error(stderr) => stderr.write(buf),
+        }
+    }
+
+    fn flush(&mut self) -> io::Result<()> {
+        Ok(())
+    }
+}
+
 /// Standard output or standard error. It is seen as the count of its faults, and tells nothing of
-/// what it took.
+/// what it took. Standard output holds back up to 8 KiB until it is flushed; standard error and
+/// longer pieces are written at once. What is never flushed is lost.
 #[derive(Drop)]
 pub struct StdSink {
-    stream: Stream,
-    faults: u64,
+    stream: HoldingWriter<Stream>,
 }
 
 impl Model for StdSink {
@@ -109,7 +119,7 @@ impl Model for StdSink {
 
     ghost Value = { ℕ };
 
-    ghost view = { λ s. s.faults };
+    ghost view = { λ s. s.stream.faults };
 }
 
 impl StdSink {
@@ -118,8 +128,7 @@ impl StdSink {
         ensures { result ≡ 0 }
     {
         StdSink {
-            stream: Stream::Output(stdout),
-            faults: 0,
+            stream: HoldingWriter::new(Stream::Output(stdout), MOST_HELD),
         }
     }
 
@@ -128,8 +137,7 @@ impl StdSink {
         ensures { result ≡ 0 }
     {
         StdSink {
-            stream: Stream::Error(stderr),
-            faults: 0,
+            stream: HoldingWriter::new(Stream::Error(stderr), 0),
         }
     }
 }
@@ -137,11 +145,8 @@ impl StdSink {
 impl Sink for StdSink {
     ghost use Rattle.std.specs.Prelude.{None};
 
-    ghost taken = { λ _. None };
+    ghost state = { λ faults. record { taken = None; faults = faults; puts = 0 } };
 
-    ghost faults = { λ faults. faults };
-
-    /// A write that takes nothing is a failure.
     fn put(&mut self, bytes: &[u8]) -> Result<usize, Fault>
         requires { 0 < length bytes.now }
         ensures some { IfOk result (λ n. 0 < n) }
@@ -149,13 +154,13 @@ impl Sink for StdSink {
         ensures ok { OnOk result (self.new ≡ self.old) }
         ensures err { OnErr result (self.new ≡ raised self.old) }
     {
-        let written = match &mut self.stream {
-            Stream::Output(stdout) => stdout.write(bytes),
-            Stream::Error(stderr) => stderr.write(bytes),
-        };
-        match written {
-            Ok(0) | Err(_) => Err(failed(&mut self.faults)),
-            Ok(count) => Ok(count),
-        }
+        self.stream.put(bytes)
+    }
+
+    fn flush(&mut self) -> Result<(), Fault>
+        ensures ok { OnOk result (self.new ≡ self.old) }
+        ensures err { OnErr result (self.new ≡ raised self.old) }
+    {
+        self.stream.flush()
     }
 }

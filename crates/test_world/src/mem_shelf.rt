@@ -1,8 +1,8 @@
 //! A shelf in memory, whose faults are planned.
-ghost use Rattle.std.specs.Prelude.{◌≡◌, ◌+◌, ◌^◌, ◌<◌, ◌⊎◌, ◌↔◌, min, [], length, take, position, All, None, IsNone, IsErr, OnOk, OnErr, IfOk, bytes_eq, string_bytes};
+ghost use Rattle.std.specs.Prelude.{◌≡◌, ◌+◌, ◌^◌, ◌<◌, ◌⊎◌, ◌↔◌, min, [], length, take, position, All, None, IsNone, IsOk, IsErr, OnOk, OnErr, IfOk, bytes_eq, string_bytes};
 ghost use Rattle.test_world.specs.Count.{greatest_count, raised};
-ghost use Rattle.test_world.specs.Shelf.{left_of};
-ghost use Rattle.test_world.specs.Memory.{named_texts, held_in, whole_text, without_front, current_at, FailsAfter, IsPlaced};
+ghost use Rattle.test_world.specs.Shelf.{left_of, held_of, IsSound, HasName};
+ghost use Rattle.test_world.specs.Memory.{shelf_state_of, named_texts, bytes_in, whole_text, without_front, current_at, FailsAfter, IsPlaced};
 
 use crate::count::{begin_call, failed};
 use crate::shelf::{Fault, Shelf};
@@ -67,18 +67,18 @@ impl MemShelf {
 }
 
 impl Shelf for MemShelf {
-    ghost use Rattle.std.specs.Prelude.{Some};
-    ghost use Rattle.test_world.specs.Memory.{showing_of, IsPastBad};
+    ghost use Rattle.test_world.specs.Memory.{shelf_state_of};
 
-    ghost shown = { λ shelf. Some (showing_of shelf) };
+    ghost state = { shelf_state_of };
 
-    ghost faults = { λ shelf. shelf.faults };
-
-    ghost sound = { λ shelf. IsPastBad shelf.calls shelf.bad };
-
+    #[tactic(auto, using(crate::proofs::Sound::past_still, crate::proofs::Sound::past_not_bad))]
     fn take_up(&mut self, name: &str) -> Result<(), Fault>
+        ensures stays_sound { IsSound (shelf_state_of self.old)
+            → HasName (held_of (shelf_state_of self.old)) name.now → IsSound (shelf_state_of self.new) }
+        ensures succeeds { IsSound (shelf_state_of self.old)
+            → HasName (held_of (shelf_state_of self.old)) name.now → IsOk result }
         ensures fails { IsErr result
-            ↔ (FailsAfter self.old.calls self.old.bad ⊎ IsNone (held_in self.old.texts name.now)) }
+            ↔ (FailsAfter self.old.calls self.old.bad ⊎ IsNone (bytes_in self.old.texts name.now)) }
         ensures ok { OnOk result (self.new ≡ record self.old {
           calls = raised self.old.calls;
           current = whole_text self.old.texts name.now;
@@ -99,8 +99,11 @@ impl Shelf for MemShelf {
         Ok(())
     }
 
+    #[tactic(auto, using(crate::proofs::Sound::past_still, crate::proofs::Sound::past_not_bad))]
     fn pull(&mut self, buf: &mut [u8]) -> Result<usize, Fault>
         requires { 0 < length buf.old }
+        ensures stays_sound { IsSound (shelf_state_of self.old) → IsSound (shelf_state_of self.new) }
+        ensures succeeds { IsSound (shelf_state_of self.old) → IsOk result }
         ensures fails { IsErr result ↔ FailsAfter self.old.calls self.old.bad }
         ensures count { IfOk result (λ n.
             n ≡ min (min (length buf.old) (length (left_of self.old.current))) self.old.chunk) }

@@ -82,11 +82,7 @@ impl MemSink {
 impl Sink for MemSink {
     ghost use Rattle.std.specs.Prelude.{Some};
 
-    ghost taken = { λ sink. Some (sink.taken) };
-
-    ghost faults = { λ sink. sink.faults };
-
-    ghost puts = { λ sink. sink.puts };
+    ghost state = { λ sink. record { taken = Some (sink.taken); faults = sink.faults; puts = sink.puts } };
 
     fn put(&mut self, bytes: &[u8]) -> Result<usize, Fault>
         requires { 0 < length bytes.now }

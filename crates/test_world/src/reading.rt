@@ -1,8 +1,7 @@
 //! Reading a whole text from a shelf.
-ghost use Rattle.std.specs.Prelude.{◌≡◌, ◌≢◌, ◌≤◌, length, OnOk, IfOk};
-ghost use Rattle.test_world.specs.Count.{Rose};
-ghost use Rattle.test_world.specs.Shelf.{Keeps, IsAtEnd, HasName};
-ghost use Rattle.test_world.specs.Load.{Holds, HoldsAtMost, HoldsMoreThan};
+ghost use Rattle.std.specs.Prelude.{◌≡◌, ◌≤◌, [], ◌∷◌};
+ghost use Rattle.test_world.specs.Shelf.{Keeps, Visits, HasName, IsSound, held_of};
+ghost use Rattle.test_world.specs.Load.{Loads, IsFault};
 
 use crate::shelf::{Fault, Shelf};
 use std::alloc::Global;
@@ -62,22 +61,13 @@ pub fn load<F: Shelf>(
     most: usize,
 ) -> Result<Text, LoadError>
     requires { most ≤ 16777216 }
-    // The shelf holds and tells what it did, and what was read is what it holds.
-    ensures keeps { Keeps (F.shown shelf.old) (F.shown shelf.new) }
-    ensures found { IfOk result (λ text. Holds (F.shown shelf.old) name.now text) }
-    ensures short { IfOk result (λ text. length text ≤ most) }
-    ensures end { OnOk result (IsAtEnd (F.shown shelf.new)) }
-    ensures not_longer { OnOk result (HoldsAtMost (F.shown shelf.old) name.now most) }
-
-    // When each error comes. That of memory may come at any time.
-    ensures later { F.faults shelf.old ≤ F.faults shelf.new }
-    ensures fault { result ≡ Err LoadError.Fault → Rose (F.faults shelf.old) (F.faults shelf.new) }
-    ensures too_long { result ≡ Err LoadError.TooLong
-        → HoldsMoreThan (F.shown shelf.old) name.now most }
-    ensures stays_sound { F.sound shelf.old → HasName (F.shown shelf.old) name.now
-        → F.sound shelf.new }
-    ensures no_fault { F.sound shelf.old → HasName (F.shown shelf.old) name.now
-        → result ≢ Err LoadError.Fault }
+    ensures loads { Loads (F.state shelf.old) (F.state shelf.new) name.now most result }
+    ensures keeps { Keeps (F.state shelf.old) (F.state shelf.new) }
+    ensures visits { Visits (F.state shelf.old) (F.state shelf.new) (name.now ∷ []) }
+    ensures stays_sound { IsSound (F.state shelf.old) → HasName (held_of (F.state shelf.old)) name.now
+        → IsSound (F.state shelf.new) }
+    ensures no_fault { IsSound (F.state shelf.old) → HasName (held_of (F.state shelf.old)) name.now
+        → IsFault result → ⊥ }
 {
     if shelf.take_up(name).is_err() {
         return Err(LoadError::Fault);

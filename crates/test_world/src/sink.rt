@@ -1,20 +1,14 @@
 //! Sinks: where bytes are written to.
-ghost use Rattle.std.specs.Prelude.{◌≡◌, ℕ, ◌+◌, ◌<◌, ◌≤◌, List, length, take, OnOk, OnErr, IfOk, Option};
+ghost use Rattle.std.specs.Prelude.{◌≡◌, ◌+◌, ◌<◌, ◌≤◌, length, take, OnErr, IfOk};
 ghost use Rattle.test_world.specs.Count.{Rose};
-ghost use Rattle.test_world.specs.Sink.{Grows, GrowsByPrefix};
+ghost use Rattle.test_world.specs.Sink.{SinkState, Grows, Puts, HandsOn};
 
 use crate::shelf::Fault;
 
 /// A sink takes bytes, and keeps their order.
 pub trait Sink {
-    // The bytes taken so far, or that the sink does not tell them.
-    ghost taken: { Self → Option (List ℕ) };
-
-    // How many of its puts have failed. A `u64`, which stands still at its greatest value.
-    ghost faults: { Self → ℕ };
-
-    // How many puts there were, where the sink counts them.
-    ghost puts: { Self → ℕ } = { λ _. 0 };
+    // The bytes taken so far, if the sink tells them, its faults and its puts.
+    ghost state: { Self → SinkState };
 
     /// Takes some of `bytes`, at least one, from the front, and answers how many. A put that fails
     /// takes none.
@@ -22,23 +16,25 @@ pub trait Sink {
         requires { 0 < length bytes.now }
         ensures some { IfOk result (λ n. 0 < n) }
         ensures within { IfOk result (λ n. n ≤ length bytes.now) }
-        ensures ok { IfOk result (λ n. Grows (taken self.old) (taken self.new) (take n bytes.now)) }
-        ensures err { OnErr result (taken self.new ≡ taken self.old) }
+        ensures ok { IfOk result (λ n. Grows (state self.old) (state self.new) (take n bytes.now)) }
+        ensures err { OnErr result ((state self.new).taken ≡ (state self.old).taken) }
+        ensures later { (state self.old).faults ≤ (state self.new).faults }
+        ensures fault { OnErr result (Rose (state self.old).faults (state self.new).faults) }
+        ensures one_put { (state self.new).puts ≤ (state self.old).puts + 1 };
 
-        ensures later { faults self.old ≤ faults self.new }
-        ensures fault { OnErr result (Rose (faults self.old) (faults self.new)) }
-        ensures one_put { puts self.new ≤ puts self.old + 1 };
+    /// Hands on what was taken and is still held back.
+    fn flush(&mut self) -> Result<(), Fault>
+        ensures { HandsOn (state self.old) (state self.new) result }
+    {
+        Ok(())
+    }
 }
 
 /// Puts all of `bytes`, or as many of them as the sink takes before a put fails. There are at most
 /// as many puts as bytes.
 pub fn put_all<K: Sink>(sink: &mut K, bytes: &[u8]) -> Result<(), Fault>
-    ensures ok { OnOk result (Grows (K.taken sink.old) (K.taken sink.new) bytes.now) }
-    ensures prefix { OnErr result (GrowsByPrefix (K.taken sink.old) (K.taken sink.new) bytes.now) }
-
-    ensures later { K.faults sink.old ≤ K.faults sink.new }
-    ensures fault { OnErr result (Rose (K.faults sink.old) (K.faults sink.new)) }
-    ensures few_puts { K.puts sink.new ≤ K.puts sink.old + length bytes.now }
+    ensures put { Puts (K.state sink.old) (K.state sink.new) bytes.now result }
+    ensures few_puts { (K.state sink.new).puts ≤ (K.state sink.old).puts + length bytes.now }
 {
     let mut done = 0;
     while done < bytes.len() {
