@@ -1,1 +1,3 @@
 pub mod ExactPartition
+pub mod Split
+pub mod inside

@@ -1,0 +1,4 @@
+-- What functions of this crate promise one another.
+pub mod Region
+pub mod Node
+pub mod Outcome
