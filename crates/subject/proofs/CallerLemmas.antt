@@ -9,3 +9,6 @@ pub use Rattle.subject.proofs.Method.{IsProbed, HasMethod, equal_by_own, equal_b
 pub use Rattle.subject.proofs.ReachedStates.{reached_word, reached_start, leads_on, reached_step, reached_more, holds_where_reached}
 pub use Rattle.subject.proofs.Acting.{acts-over_witnesses, acts-after_words}
 pub use Rattle.subject.proofs.Covering.{decide_same, cover_rank}
+pub use Rattle.subject.proofs.Letters.{IsMapped, contains_from_map, all_of_each, word_in, HasLetters, letters_for, in_model_alone}
+pub use Rattle.subject.proofs.FromShape.{letters_rank, rank_is_length, marks_are_letters, own_mark_among, product_letters, wp_letters}
+pub use Rattle.subject.proofs.Suites.{one_shape, one_wp_shape, shape_answered, wp_shape_answered, shape_decides, wp_shape_decides}

@@ -9,6 +9,10 @@ pub mod Method
 pub mod Acting
 pub mod Parting
 pub mod Covering
+pub mod Shortlex
+pub mod Letters
+pub mod FromShape
+pub mod Suites
 pub mod Lamp
 pub mod Silent
 pub mod CallerLemmas

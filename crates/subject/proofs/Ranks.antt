@@ -1,7 +1,7 @@
 -- Numbers of states: the rank is least, and words of witnesses count the same states.
 use Rattle.std.proofs.Common.{◌≡◌, ◌≢◌, ℕ, zero, suc, ◌<◌, ◌≤◌, inl, inr, List, [], ◌∷◌, ◌++◌, length, map, drop, get_or, refl, sym, ap, subst, ◌∙◌, arith}
 use Rattle.std.specs.List.{All, AllZip, AllPairs}
-use Rattle.std.proofs.Math.Logic.{∥∥₁_elim, ∥∥₁_map, ∥∥₁_map₂}
+use Rattle.std.proofs.Math.Logic.{∥∥₁_elim, ∥∥₁_map}
 use Rattle.std.proofs.lemmas.Bool.{cases_lt}
 use Rattle.std.proofs.lemmas.Bool.Decides.{Decides-eqb}
 use Rattle.std.proofs.lemmas.List.{length-map, get_or-map, get_or_default}
@@ -47,11 +47,11 @@ module _ {S : Type 0} (m : Meaning S) where
       let is = get_or_default words h.there.0 [] h.like h.there.1 ∙ h.there.2 in
       record { below = h.there.1; alike = λ v k. h.alike v k ∙ ap (λ u. after m u v) (sym is) }
 
-  places_of : (s : VectorSet) (words ws : List Word) → All (λ w. ∥ IsListed s m words w ∥₁) ws → ∥ HasPlaces s words ws ∥₁
-  places_of s words [] h = ∣ record { places = []; each = tt } ∣₁
-  places_of s words (w ∷ ws) h =
-      ∥∥₁_map₂ (All-head (λ w. ∥ IsListed s m words w ∥₁) w ws h) (places_of s words ws (All-tail (λ w. ∥ IsListed s m words w ∥₁) w ws h))
-      (λ one more. record { places = one.there.0 ∷ more.places; each = (at_place s words w one, more.each) })
+  places_of : (s : VectorSet) (words ws : List Word) → All (λ w. (IsListed s m words w → ⊥) → ⊥) ws → (HasPlaces s words ws → ⊥) → ⊥
+  places_of s words [] h none = none (record { places = []; each = tt })
+  places_of s words (w ∷ ws) h none =
+      All-head (λ w. (IsListed s m words w → ⊥) → ⊥) w ws h (λ one. places_of s words ws (All-tail (λ w. (IsListed s m words w → ⊥) → ⊥) w ws h) (λ more.
+      none (record { places = one.there.0 ∷ more.places; each = (at_place s words w one, more.each) })))
 
   places_below : (s : VectorSet) (words ws : List Word) (ps : List ℕ) → AllZip (IsAt s words) ws ps → All (λ p. p < length words) ps
   places_below s words [] [] h = All-nil (λ p. p < length words)
@@ -78,16 +78,21 @@ module _ {S : Type 0} (m : Meaning S) where
         All-contains (λ p. p < length words) h.places q below (Contains-from_any (λ x y. (Decides-eqb x y).0) q h.places k)) in
         omega arith
 
+    -- words that lead pairwise differently, and of which none leads differently from all of a list, are no more than those
+    pub few_listed : (words ws : List Word) → All (λ w. (IsListed s m words w → ⊥) → ⊥) ws → AllPairs (LeadDifferently t m) ws → length ws ≤ length words
+    few_listed words ws all apart =
+        elim (cases_lt (length words) (length ws)) [
+          | inl more ↦ absurd (places_of s words ws all (λ h. let few = few_places words ws h apart in let no : ⊥ = omega arith in no))
+          | inr less ↦ less
+        ]
+
     -- words that lead pairwise differently over fewer words are at most as many as the states over more
     pub few_apart : (ws : List Word) (n : ℕ) → All (IsWordOf t) ws → AllPairs (LeadDifferently t m) ws → HasAtMost s m n → length ws ≤ n
     few_apart ws n all apart most =
-        elim (cases_lt n (length ws)) [
-          | inl more ↦ absurd (∥∥₁_elim
-              (places_of s most.words ws (All-weaker (IsWordOf t) (λ w. ∥ IsListed s m most.words w ∥₁) (λ w h. most.each w (within w h)) ws all))
-              (λ p q. absurd p)
-              (λ h. let few = few_places most.words ws h apart in let most = most.few in let no : ⊥ = omega arith in no))
-          | inr less ↦ less
-        ]
+        let listed = All-weaker (IsWordOf t) (λ w. (IsListed s m most.words w → ⊥) → ⊥) (λ w h none. ∥∥₁_elim (most.each w (within w h)) (λ p q. absurd p) none) ws all in
+        let few = few_listed most.words ws listed apart in
+        let size = most.few in
+        omega arith
 
     -- a rank over fewer words is at most the number of states over more
     pub rank_within : (k n : ℕ) → HasRank t m k → HasAtMost s m n → k ≤ n

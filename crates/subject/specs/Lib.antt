@@ -6,4 +6,5 @@ pub mod Tests
 pub mod Suite
 pub mod Domain
 pub mod Method
+pub mod Shape
 pub mod Lamp

@@ -59,7 +59,8 @@ pub fn equality<P: Plan, Q: Plan, R: Plan>(first: &P, second: &Q, third: &R)
         (s : VectorSet) → Equal s a b → Equal s b c → Equal s a c }
 {}
 
-/// A word leads alike with itself, leading alike is symmetric, it passes on, and it goes on with one more vector.
+/// A word leads alike with itself, leading alike is symmetric, it passes on, and it goes on with one more vector. Where
+/// members of a class act alike, words of witnesses show it.
 pub fn leading_alike<P: Plan>(plan: &P)
     ensures itself { let m = P.plan plan.now in (s : VectorSet) (u : Word) → LeadAlike s m u u }
     ensures turned { let m = P.plan plan.now in (s : VectorSet) (u w : Word) → LeadAlike s m u w → LeadAlike s m w u }
@@ -68,6 +69,9 @@ pub fn leading_alike<P: Plan>(plan: &P)
     ensures goes_on { let m = P.plan plan.now in
         (s : VectorSet) (u w : Word) (x : List ℤ) → IsIn s x → LeadAlike s m u w
         → LeadAlike s m (u ++ x ∷ []) (w ++ x ∷ []) }
+    ensures over_witnesses { let m = P.plan plan.now in
+        (s : VectorSet) (r : Partition) (u w : Word) → Covers s r → MembersActAlike s r m → IsWordOf s u → IsWordOf s w
+        → (LeadAlike s m u w ↔ LeadAlike (Members (witnesses r)) m u w) }
 {}
 
 /// Two vectors with the same next state and the same reply in every state that is reached act alike.

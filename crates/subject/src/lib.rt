@@ -8,6 +8,7 @@ mod cases;
 mod laws;
 mod plan;
 mod replies;
+mod shapes;
 mod step;
 #[cfg(test)]
 mod tests;
@@ -23,4 +24,8 @@ pub use laws::{
 };
 pub use plan::Plan;
 pub use replies::answers;
+pub use shapes::{
+    cover_words_are_the_rank, letters_stand_for_witnesses, suite_is_one, suites_are_answered,
+    suites_are_complete, suites_decide,
+};
 pub use step::Step;
