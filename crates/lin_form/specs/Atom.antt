@@ -58,7 +58,7 @@ pub record IsPairOf (comparison : Comparison) (memory : List ℤ) (pair : Pair) 
   pub second : (AreZero comparison.form.inputs → ⊥) → IsAtomIf (second_of comparison.relation (put_in comparison.form memory)) pair.second
 
 -- the atoms of a pair have the same truth on two vectors
-pub record Agree (pair : Pair) (x y : List ℤ) : Type 0 where
+pub record AgreeOnPair (pair : Pair) (x y : List ℤ) : Type 0 where
   pub first : IfSome pair.first (λ atom. atom_truth atom x ≡ atom_truth atom y)
   pub second : IfSome pair.second (λ atom. atom_truth atom x ≡ atom_truth atom y)
 

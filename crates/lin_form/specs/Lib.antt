@@ -5,6 +5,8 @@ pub mod Range
 pub mod Signature
 pub mod Form
 pub mod Inequality
+pub mod Normal
 pub mod Atom
 pub mod SameAtom
 pub mod Trees
+pub mod inside
