@@ -9,8 +9,8 @@ pub record Place : Type 0 where
   pub line : List ℕ
   pub room : ℕ
 
--- the bytes that a line takes which has this many letters: 6 for each with its space, since a letter is a `u16`, and 320 for
--- a line's word, or for its word, six inputs and eight outputs
+-- the bytes that a line takes which has this many letters: 6 for each with its space, since a letter is a `u16`, and
+-- 320 for a line's word, or for its word, six inputs and eight outputs
 abbrev pub line_room : ℕ → ℕ
 line_room letters = 320 + 6 * letters
 

@@ -5,8 +5,8 @@ use Rattle.lin_form.specs.Signature.{IsInInputRanges}
 use Rattle.suite_words.specs.Cover.{AreLetters}
 use Rattle.subject.specs.Suite.{SuiteParts, Test}
 
--- each witness is in the ranges, each letter is a class, each test has a letter and one reply for each, each reply has one
--- number for each output, and equal prefixes of two tests carry equal replies
+-- each witness is in the ranges, each letter is a class, each test has a letter and one reply for each, each reply has
+-- one number for each output, and equal prefixes of two tests carry equal replies
 pub record IsSuite (s : SuiteParts) : Type 0 where
   pub vectors : All (IsInInputRanges s.signature.inputs) s.classes
   pub letters : All (λ (t : Test). AreLetters (length s.classes) t.letters) s.tests

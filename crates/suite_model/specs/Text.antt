@@ -45,7 +45,8 @@ abbrev pub suite_lines : SuiteParts → List (List Token)
 suite_lines s = natural_line (codes "suite") 1
     ∷ (map input_line s.signature.inputs ++ (map output_line s.signature.outputs
     ++ (natural_line (codes "bound") s.bound ∷ natural_line (codes "states") s.states
-    ∷ (map class_line s.classes ++ (map (letters_line (codes "cover")) s.cover ++ (map (letters_line (codes "mark")) s.marks
+    ∷ (map class_line s.classes ++ (map (letters_line (codes "cover")) s.cover
+    ++ (map (letters_line (codes "mark")) s.marks
     ++ (flat_map (test_lines s.classes) s.tests ++ natural_line (codes "end") (length s.tests) ∷ [])))))))
 
 abbrev pub suite_text : SuiteParts → List ℕ

@@ -1,5 +1,5 @@
-//! A test suite as it is run, printed and read: words of a pool with one reply for each, and the memory that is taken once
-//! for reading and printing it.
+//! A test suite as it is run, printed and read: words of a pool with one reply for each, and the memory that is taken
+//! once for reading and printing it.
 #![tactic(auto)]
 
 mod scratch;

@@ -35,8 +35,8 @@ impl Model for Scratch {
 }
 
 impl Scratch {
-    /// Room for the longest test, cover word and mark of the suite, and for each line of its text and of a verdict on it.
-    /// The line is empty.
+    /// Room for the longest test, cover word and mark of the suite, and for each line of its text and of a verdict on
+    /// it. The line is empty.
     pub fn for_suite(alloc: Global, suite: &Suite) -> Result<Scratch, AllocError>
         ensures made { IfOk result (λ s. IsMadeFor suite.now s) }
         ensures empty { IfOk result (λ s. s.line ≡ []) }

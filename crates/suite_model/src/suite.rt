@@ -155,8 +155,8 @@ impl Suite {
     pub fn test_letters(&self, test: usize, scratch: &mut Scratch) -> usize
         requires test { test < length self.now.tests }
         requires made { IsMadeFor self.now scratch.old }
-        ensures letters { (t : Test) → slice_get self.now.tests test ≡ Some t →
-            (result ≡ length t.letters) × (scratch.new.letters ≡ t.letters ++ drop (length t.letters) scratch.old.letters) }
+        ensures letters { (t : Test) → slice_get self.now.tests test ≡ Some t → (result ≡ length t.letters)
+            × (scratch.new.letters ≡ t.letters ++ drop (length t.letters) scratch.old.letters) }
         ensures line { scratch.new.line ≡ scratch.old.line }
         ensures room { scratch.new.room ≡ scratch.old.room }
         ensures still_made { IsMadeFor self.now scratch.new }
