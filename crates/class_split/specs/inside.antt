@@ -2,3 +2,4 @@
 pub mod Region
 pub mod Node
 pub mod Outcome
+pub mod Places

@@ -1,6 +1,7 @@
 //! The input equivalence classes of a box: the patterns of atoms that some vector has, each with its least vector.
 #![tactic(auto)]
 
+mod class_number;
 mod classes;
 mod cut;
 mod found;
