@@ -5,10 +5,12 @@ ghost use Rattle.std.specs.Prelude.{◌≡◌, ◌<◌, ◌↔◌, length, Some,
 ghost use Rattle.fsm_core.specs.Machine.{machine_of, row, AreDifferent, IsMachine, IsWord, state_after};
 ghost use Rattle.fsm_core.specs.Answers.{AllReached};
 
-mod search;
+mod breadth_first;
+mod rows;
 
+pub use breadth_first::{Found, search};
 use lin_form::Reply;
-use search::{all_found, visit};
+pub use rows::Rows;
 use std::alloc::{AllocError, Global};
 use std::marker::Model;
 
@@ -18,12 +20,12 @@ mod tests;
 /// A machine of 1 to 1,024 states and 1 to 4,096 letters, both counted from 0, with the start 0.
 ///
 /// Each pair of a state and a letter has a next state and the number of a reply. No reply has two numbers.
-/// A row takes 16 bytes.
+/// A row takes 8 bytes, or 16 where the machine was made from pairs.
 #[derive(Drop)]
 pub struct Fsm {
     letters: usize,
     states: usize,
-    rows: Vec<(usize, usize)>,
+    rows: Rows,
     replies: Vec<Reply>,
 }
 
@@ -32,9 +34,9 @@ impl Model for Fsm {
 
     ghost Value = { Machine };
 
-    ghost view = { λ m. record { letters = m.letters; states = m.states; rows = m.rows.items; replies = m.replies.items } };
+    ghost view = { λ m. record { letters = m.letters; states = m.states; rows = m.rows; replies = m.replies.items } };
 
-    ghost invariant = { λ m. IsMachine (record { letters = m.letters; states = m.states; rows = m.rows.items; replies = m.replies.items }) };
+    ghost invariant = { λ m. IsMachine (record { letters = m.letters; states = m.states; rows = m.rows; replies = m.replies.items }) };
 }
 
 impl Fsm {
@@ -43,6 +45,15 @@ impl Fsm {
     pub fn new(letters: usize, rows: Vec<(usize, usize)>, replies: Vec<Reply>) -> Fsm
         requires { IsMachine (machine_of letters rows.items replies.items) }
         ensures made { result ≡ machine_of letters rows.items replies.items }
+        ensures sound { IsMachine result }
+    {
+        Fsm::from_rows(letters, Rows::from_pairs(rows), replies)
+    }
+
+    /// The machine with these rows, as `new` makes it. It takes no memory.
+    pub fn from_rows(letters: usize, rows: Rows, replies: Vec<Reply>) -> Fsm
+        requires { IsMachine (machine_of letters rows replies.items) }
+        ensures made { result ≡ machine_of letters rows replies.items }
         ensures sound { IsMachine result }
     {
         let states = rows.len() / letters;
@@ -100,8 +111,9 @@ impl Fsm {
         ensures row { result ≡ row self.now state letter }
         ensures next { result.0 < self.now.states }
         ensures number { result.1 < length self.now.replies }
+        ensures sound { IsMachine self.now }
     {
-        self.rows[state * self.letters + letter as usize]
+        self.rows.at(state * self.letters + letter as usize)
     }
 
     /// The state that a word leads to.
@@ -122,15 +134,7 @@ impl Fsm {
     pub fn all_reached(&self, alloc: Global) -> Result<bool, AllocError>
         ensures { IfOk result (λ b. IsTrue b ↔ AllReached self.now) }
     {
-        let mut found = vec![in alloc; false; self.states]?;
-        let mut queue = vec![in alloc; 0]?;
-        found[0] = true;
-        let mut at = 0;
-        while at < queue.len() {
-            visit(self, at, found.as_mut_slice(), &mut queue)?;
-            at += 1;
-        }
-        Ok(all_found(found.as_slice()))
+        Ok(search(alloc, self)?.len() == self.states())
     }
 
     /// The reply with a number.

@@ -1,4 +1,5 @@
 use super::*;
+use std::process::Abort;
 use std::test::Fail;
 
 // A lift of three floors: the letter 0 goes up, 1 goes down and 2 stays. It replies with the floor that it
@@ -17,6 +18,19 @@ const ROWS: [(usize, usize); 9] = [
     (2, 2),
 ];
 
+// Compares a machine with the rows of the lift.
+fn check_rows(rt: &impl Abort, lift: &Fsm) {
+    assert_eq!(rt; lift.states(), 3);
+    assert_eq!(rt; lift.letters(), 3);
+    assert_eq!(rt; lift.replies(), 4);
+    for state in 0..3 {
+        for letter in 0..3 {
+            let want = ROWS[state * 3 + letter as usize];
+            assert_eq!(rt; lift.step(state, letter), want);
+        }
+    }
+}
+
 #[test]
 fn a_lift(rt: HostRuntime) -> Result<(), Fail> {
     let mut replies = Vec::new(rt.alloc());
@@ -26,17 +40,13 @@ fn a_lift(rt: HostRuntime) -> Result<(), Fail> {
     }
     assert!(rt; Fsm::is_machine(LETTERS, &ROWS, replies.as_slice()));
     let rows = Vec::from_slice(rt.alloc(), &ROWS)?;
-    let lift = Fsm::new(LETTERS, rows, replies);
-    assert_eq!(rt; lift.states(), 3);
-    assert_eq!(rt; lift.letters(), 3);
-    assert_eq!(rt; lift.replies(), 4);
-
-    for state in 0..3 {
-        for letter in 0..3 {
-            let want = ROWS[state * 3 + letter as usize];
-            assert_eq!(rt; lift.step(state, letter), want);
-        }
+    let lift = Fsm::new(LETTERS, rows, replies.clone()?);
+    check_rows(&rt, &lift);
+    let mut rows = Rows::with_capacity(rt.alloc(), 0)?;
+    for (next, number) in ROWS {
+        rows.push(next, number)?;
     }
+    check_rows(&rt, &Fsm::from_rows(LETTERS, rows, replies));
     let words = [
         (0, [].as_slice(), 0),
         (2, &[], 2),
@@ -103,6 +113,48 @@ fn states_that_are_reached(rt: HostRuntime) -> Result<(), Fail> {
         assert!(rt; Fsm::is_machine(letters, rows, replies.as_slice()));
         let fsm = Fsm::new(letters, Vec::from_slice(rt.alloc(), rows)?, replies);
         assert_eq!(rt; fsm.all_reached(rt.alloc())?, want, "{rows:?}");
+    }
+    Ok(())
+}
+
+#[test]
+fn states_in_the_order_of_the_search(rt: HostRuntime) -> Result<(), Fail> {
+    let rows = [
+        (3, 0),
+        (0, 0),
+        (1, 0),
+        (1, 0),
+        (0, 0),
+        (1, 0),
+        (4, 0),
+        (2, 0),
+        (3, 0),
+        (4, 0),
+    ];
+    // For each state that is found: the state, the place of the one that leads to it, and the letter.
+    let want = [(0, 0, 0), (3, 0, 0), (4, 1, 0), (2, 1, 1), (1, 3, 1)];
+    let replies = vec![in rt.alloc(); Reply::from_slice(&[])]?;
+    assert!(rt; Fsm::is_machine(2, &rows, replies.as_slice()));
+    let fsm = Fsm::new(2, Vec::from_slice(rt.alloc(), &rows)?, replies);
+    let found = search(rt.alloc(), &fsm)?;
+    assert_eq!(rt; found.len(), want.len());
+    for (place, found) in found.iter().enumerate() {
+        assert_eq!(rt; (found.state, found.from, found.letter), want[place]);
+    }
+    Ok(())
+}
+
+#[test]
+fn rows_that_need_more_than_32_bits(rt: HostRuntime) -> Result<(), Fail> {
+    let most = u32::MAX as usize;
+    let pairs = [(3, most), (most, 4), (5, most + 1), (most + 1, 6), (7, 8)];
+    let mut rows = Rows::with_capacity(rt.alloc(), 1)?;
+    for (next, number) in pairs {
+        rows.push(next, number)?;
+    }
+    assert_eq!(rt; rows.len(), pairs.len());
+    for (place, pair) in pairs.iter().enumerate() {
+        assert_eq!(rt; rows.at(place), *pair);
     }
     Ok(())
 }

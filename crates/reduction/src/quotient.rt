@@ -2,7 +2,7 @@ ghost use Rattle.std.specs.Prelude.{◌≡◌, length, IfOk};
 ghost use Rattle.reduction.specs.Blocks.{AreInOrder};
 ghost use Rattle.reduction.specs.Quotient.{AreRepresentatives, AreRowsOf};
 
-use fsm_core::Fsm;
+use fsm_core::{Fsm, Rows};
 use lin_form::Reply;
 use std::alloc::{AllocError, Global};
 
@@ -26,17 +26,17 @@ pub fn rows_of(
     fsm: &Fsm,
     blocks: &[usize],
     representatives: &[usize],
-) -> Result<Vec<(usize, usize)>, AllocError>
+) -> Result<Rows, AllocError>
     requires size { length blocks.now ≡ fsm.now.states }
     requires representatives { AreRepresentatives blocks.now representatives.now }
-    ensures { IfOk result (λ v. AreRowsOf fsm.now blocks.now representatives.now v.items) }
+    ensures { IfOk result (λ v. AreRowsOf fsm.now blocks.now representatives.now v) }
 {
     let letters = fsm.letters();
-    let mut rows = Vec::with_capacity(alloc, representatives.len() * letters)?;
+    let mut rows = Rows::with_capacity(alloc, representatives.len() * letters)?;
     for place in 0..representatives.len() * letters {
         let state = representatives[place / letters];
         let (next, reply) = fsm.step(state, (place % letters) as u16);
-        rows.push((blocks[next], reply))?;
+        rows.push(blocks[next], reply)?;
     }
     Ok(rows)
 }

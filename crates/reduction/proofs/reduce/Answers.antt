@@ -7,45 +7,41 @@ use Rattle.reduction.proofs.reduce.Goals as goal
 representatives : (c : goal.After-letters) → AreRepresentatives c.in_ok-blocks.blocks.items c.in_ok-representatives.representatives.items
 representatives c = rw (c.as_slice.ensures.value) at c.in_ok-representatives.ensures
 
-rows : (c : goal.After-letters) → AreRowsOf c.args.fsm.now c.in_ok-blocks.blocks.items c.in_ok-representatives.representatives.items c.in_ok-rows.rows.items
+rows : (c : goal.After-letters) → AreRowsOf c.args.fsm.now c.in_ok-blocks.blocks.items c.in_ok-representatives.representatives.items c.in_ok-rows.rows
 rows c = rw (c.as_slice-2.ensures.value, c.as_slice-3.ensures.value) at c.in_ok-rows.ensures
 
-pub new-requires : goal.new-requires
-new-requires c =
+pub from_rows-requires : goal.from_rows-requires
+from_rows-requires c =
     rw (c.letters.ensures.count, c.in_ok-replies.ensures)
     (quotient_sound c.args.fsm.now c.letters.ensures.sound c.in_ok-blocks.blocks.items c.in_ok-representatives.representatives.items
-    c.in_ok-blocks.ensures.blocks c.in_ok-blocks.ensures.stable (representatives c) c.in_ok-rows.rows.items (rows c))
+    c.in_ok-blocks.ensures.blocks c.in_ok-blocks.ensures.stable (representatives c) c.in_ok-rows.rows (rows c))
 
-reduction_is : (c : goal.After-drop-representatives-2) → IsReduction c.args.fsm.now c.new.result c.in_ok-blocks.blocks.items
+reduction_is : (c : goal.After-drop-representatives-2) → IsReduction c.args.fsm.now c.from_rows.result c.in_ok-blocks.blocks.items
 reduction_is c =
     let m = c.args.fsm.now in
     let p : AreRepresentatives c.in_ok-blocks.blocks.items c.in_ok-representatives.representatives.items =
     rw (c.as_slice.ensures.value) at c.in_ok-representatives.ensures in
-    let o : AreRowsOf m c.in_ok-blocks.blocks.items c.in_ok-representatives.representatives.items c.in_ok-rows.rows.items =
+    let o : AreRowsOf m c.in_ok-blocks.blocks.items c.in_ok-representatives.representatives.items c.in_ok-rows.rows =
     rw (c.as_slice-2.ensures.value, c.as_slice-3.ensures.value) at c.in_ok-rows.ensures in
     reduction m c.letters.ensures.sound c.in_ok-blocks.blocks.items c.in_ok-representatives.representatives.items
-    c.in_ok-blocks.ensures.blocks c.in_ok-blocks.ensures.stable p c.in_ok-rows.rows.items o c.new.result
-    (c.new.ensures.made ∙
-    (ap (λ k. machine_of k c.in_ok-rows.rows.items c.in_ok-replies.replies.items) c.letters.ensures.count ∙
-    ap (λ l. machine_of m.letters c.in_ok-rows.rows.items l) c.in_ok-replies.ensures))
+    c.in_ok-blocks.ensures.blocks c.in_ok-blocks.ensures.stable p c.in_ok-rows.rows o c.from_rows.result
+    (c.from_rows.ensures.made ∙
+    (ap (λ k. machine_of k c.in_ok-rows.rows c.in_ok-replies.replies.items) c.letters.ensures.count ∙
+    ap (λ l. machine_of m.letters c.in_ok-rows.rows l) c.in_ok-replies.ensures))
 
-pub returns-clause-answers : goal.returns-clause-answers
-returns-clause-answers c = (reduction_is c).answers
-
-pub returns-clause-joined : goal.returns-clause-joined
-returns-clause-joined c = (reduction_is c).joined
-
-pub returns-clause-reduced : goal.returns-clause-reduced
-returns-clause-reduced c = (reduction_is c).reduced
-
-pub returns-clause-reached : goal.returns-clause-reached
-returns-clause-reached c = (reduction_is c).reached c.requires.reached
-
-pub returns-clause-start : goal.returns-clause-start
-returns-clause-start c = (reduction_is c).start
-
-pub returns-clause-within : goal.returns-clause-within
-returns-clause-within c = (reduction_is c).within
-
-pub returns-clause-onto : goal.returns-clause-onto
-returns-clause-onto c = (reduction_is c).onto
+pub returns : goal.returns
+returns c =
+    let r = reduction_is c in
+    record {
+      answers = r.answers;
+      joined = r.joined;
+      reduced = r.reduced;
+      reached = r.reached c.requires.reached;
+      machine = c.from_rows.ensures.sound;
+      letters = ap (λ m. m.letters) c.from_rows.ensures.made ∙ c.letters.ensures.count;
+      replies = ap (λ m. m.replies) c.from_rows.ensures.made ∙ c.in_ok-replies.ensures;
+      start = r.start;
+      each = c.in_ok-blocks.ensures.blocks.size;
+      within = r.within;
+      onto = r.onto;
+    }

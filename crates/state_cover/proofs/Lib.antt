@@ -1,0 +1,3 @@
+pub mod CallerLemmas
+pub mod Naming
+pub mod Covering
