@@ -1,25 +1,13 @@
 -- The words of a state cover with a characterisation set are as many as the rank.
-use Rattle.std.proofs.Common.{◌≡◌, ◌⊎◌, inl, inr, ℤ, Bool, true, false, List, [], ◌∷◌, length, get_or, Contains, refl, sym, ap, ◌∙◌, subst, arith}
-use Rattle.std.specs.Bool.{Decides}
-use Rattle.std.proofs.lemmas.Bool.{false≢true}
-use Rattle.std.proofs.lemmas.Bool.Decides.{Decides-int_eq}
+use Rattle.std.proofs.Common.{◌≡◌, ◌⊎◌, inl, inr, List, [], ◌∷◌, length, get_or, Contains, refl, sym, ap, ◌∙◌, subst, arith}
 use Rattle.std.proofs.lemmas.List.Elements.{All-nil, All-cons, All-head, All-tail}
-use Rattle.std.proofs.lemmas.Slice.Eq.{slice_eq-Decides}
 use Rattle.input_classes.specs.VectorSet.{VectorSet, Word, IsWordOf}
 use Rattle.input_classes.proofs.CallerLemmas.{contains_first, contains_later, contains_cases, contains_none}
 use Rattle.subject.specs.Alike.{LeadAlike, IsListed, HasRank}
 use Rattle.subject.specs.Meaning.{Meaning, after}
 use Rattle.subject.specs.Method.{AgreeOn, AreCoverAndMarks}
-use Rattle.subject.proofs.Lifting.{stable}
+use Rattle.subject.proofs.Lifting.{decide_same, stable}
 use Rattle.subject.proofs.Method.{agree_is_one}
-
-same_or_not : (x y : List (List ℤ)) (b : Bool) → Decides b (x ≡ y) → (x ≡ y) ⊎ (x ≡ y → ⊥)
-same_or_not x y true d = inl (d.0 refl)
-same_or_not x y false d = inr (λ e. false≢true (d.1 e))
-
--- whether two lists of replies are the same
-pub decide_same : (x y : List (List ℤ)) → (x ≡ y) ⊎ (x ≡ y → ⊥)
-decide_same x y = same_or_not x y _ (slice_eq-Decides (λ a b. slice_eq-Decides Decides-int_eq a b _ refl) x y _ refl)
 
 -- a word of a list that agrees with another on the marks
 record IsAgreed {S : Type 0} (m : Meaning S) (words marks : List Word) (w : Word) : Type 0 where

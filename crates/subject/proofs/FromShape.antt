@@ -19,9 +19,9 @@ use Rattle.subject.specs.Method.{AgreeOn, AreCoverAndMarks, IsFront}
 use Rattle.subject.specs.Shape.{LeadAlikeBy, answer_after, IsFirstApart, IsOwnMark, IsOwnProduct, IsWpProduct}
 use Rattle.subject.specs.Suite.{Test, in_vectors, test_case}
 use Rattle.subject.specs.Tests.{TestCase}
-use Rattle.subject.proofs.Covering.{decide_same, cover_rank}
+use Rattle.subject.proofs.Covering.{cover_rank}
 use Rattle.subject.proofs.Letters.{word_in, letters_for, contains_from_map, like_word}
-use Rattle.subject.proofs.Lifting.{lead_alike_from}
+use Rattle.subject.proofs.Lifting.{decide_same, lead_alike_from}
 use Rattle.subject.proofs.Method.{HasMethod, all_marks, all_apart}
 use Rattle.subject.proofs.Ranks.{few_apart, few_listed, rank_from_witnesses}
 use Rattle.subject.proofs.Shortlex.{by_shortlex, none_before}

@@ -12,7 +12,7 @@ use Rattle.lin_form.specs.Signature.{ranges_of}
 use Rattle.subject.specs.declared.case.Case.{Case}
 use Rattle.subject.specs.Alike.{ActsLike, LeadAlike, LeadDifferently, IsListed, HasAtMost, HasRank}
 use Rattle.subject.specs.FiniteMap.{next_of, plan_of_map}
-use Rattle.subject.specs.Lamp.{entry, lamp, pressed}
+use Rattle.subject.specs.inside.Examples.{entry, lamp, pressed}
 use Rattle.subject.specs.Method.{AgreeOn, IsTested}
 use Rattle.subject.specs.Meaning.{Meaning, answer_from, state_after}
 use Rattle.input_classes.specs.VectorSet.{VectorSet, IsIn, Word, IsWordOf, box_of}

@@ -14,5 +14,6 @@ pub mod Letters
 pub mod FromShape
 pub mod Suites
 pub mod Lamp
+pub mod TwoClasses
 pub mod Silent
 pub mod CallerLemmas

@@ -1,5 +1,5 @@
 -- From words of witnesses to all words, where every vector has a class that acts like it.
-use Rattle.std.proofs.Common.{Contains, ◌≡◌, ℤ, Bool, true, false, List, [], ◌∷◌, ◌++◌, length, drop, refl, sym, ap, ◌∙◌}
+use Rattle.std.proofs.Common.{Contains, ◌≡◌, ◌⊎◌, inl, inr, ℤ, Bool, true, false, List, [], ◌∷◌, ◌++◌, length, drop, refl, sym, ap, ◌∙◌}
 use Rattle.std.specs.Bool.{Decides}
 use Rattle.std.proofs.Math.Logic.{∥∥₁_elim}
 use Rattle.std.proofs.lemmas.Bool.{false≢true}
@@ -16,13 +16,17 @@ use Rattle.subject.specs.Alike.{MembersActAlike}
 use Rattle.input_classes.specs.VectorSet.{VectorSet, Members, IsIn, Word, IsWordOf}
 use Rattle.input_classes.proofs.CallerLemmas.{contains_map, witnessed, words-within}
 
-decided : (x y : List (List ℤ)) (b : Bool) → Decides b (x ≡ y) → ((x ≡ y → ⊥) → ⊥) → x ≡ y
-decided x y true d h = d.0 refl
-decided x y false d h = absurd (h (λ e. false≢true (d.1 e)))
+same_or_not : (x y : List (List ℤ)) (b : Bool) → Decides b (x ≡ y) → (x ≡ y) ⊎ (x ≡ y → ⊥)
+same_or_not x y true d = inl (d.0 refl)
+same_or_not x y false d = inr (λ e. false≢true (d.1 e))
+
+-- whether two lists of replies are the same
+pub decide_same : (x y : List (List ℤ)) → (x ≡ y) ⊎ (x ≡ y → ⊥)
+decide_same x y = same_or_not x y _ (slice_eq-Decides (λ a b. slice_eq-Decides Decides-int_eq a b _ refl) x y _ refl)
 
 -- answers that cannot differ are the same
 pub stable : (x y : List (List ℤ)) → ((x ≡ y → ⊥) → ⊥) → x ≡ y
-stable x y h = decided x y _ (slice_eq-Decides (λ a b. slice_eq-Decides Decides-int_eq a b _ refl) x y _ refl) h
+stable x y h = elim (decide_same x y) [ inl same ↦ same | inr differ ↦ absurd (h differ) ]
 
 pub from_mere : {A : Type 0} (x y : List (List ℤ)) → ∥ A ∥₁ → (A → x ≡ y) → x ≡ y
 from_mere x y h f = stable x y (λ never. ∥∥₁_elim h (λ p q. absurd p) (λ a. never (f a)))

@@ -1,6 +1,6 @@
 -- A plan with one vector and one state that replies nothing: one press is a complete test of it at the bound 1, and no
 -- test at all is not.
-use Rattle.std.proofs.Common.{zero, suc, length, All, ◌≤◌, Contains, ◌≡◌, ℕ, ℤ, pos, Bool, true, false, ◌&&◌, cond, List, [], ◌∷◌, ◌++◌, None, Some, refl, sym, ap, subst, ◌∙◌, arith}
+use Rattle.std.proofs.Common.{inl, inr, ◌<◌, zero, suc, length, All, ◌≤◌, Contains, ◌≡◌, ℕ, ℤ, pos, Bool, true, false, ◌&&◌, cond, List, [], ◌∷◌, ◌++◌, None, Some, refl, sym, ap, subst, ◌∙◌, arith}
 use Rattle.std.specs.Option.{option_map_or}
 use Rattle.std.proofs.lemmas.Int.{ints}
 use Rattle.std.proofs.lemmas.List.Elements.{All-nil, All-cons, All-head}
@@ -8,15 +8,22 @@ use Rattle.lin_form.specs.declared.signature.Signature.{Signature}
 use Rattle.lin_form.specs.Range.{IsInRanges}
 use Rattle.lin_form.specs.Signature.{ranges_of}
 use Rattle.subject.specs.declared.case.Case.{Case}
-use Rattle.subject.specs.Alike.{ActsLike}
+use Rattle.subject.specs.Alike.{ActsLike, LeadAlike, HasRank}
+use Rattle.subject.specs.Shape.{LeadAlikeBy, answer_after, IsSuiteFor, HasShape, HasWpShape, IsOwnMark, IsOwnProduct, IsWpProduct}
+use Rattle.subject.specs.Suite.{Test, in_vectors}
+use Rattle.word_pool.specs.Words.{word}
+use Rattle.suite_words.specs.Cover.{AreLetters, IsFirstOfItsKind}
+use Rattle.suite_words.specs.Tests.{IsProduct, IsLongest, AreLongest}
+use Rattle.subject.proofs.Shortlex.{none_before}
+use Rattle.std.proofs.lemmas.List.{append-nil}
 use Rattle.subject.specs.Domain.{Complete, Inside, box}
 use Rattle.subject.specs.FiniteMap.{FiniteMap, plan_of_map}
-use Rattle.subject.specs.Lamp.{entry, pressed, one_class, one_press}
+use Rattle.subject.specs.inside.Examples.{entry, pressed, one_class, one_press, silent_suite, loud_press}
 use Rattle.subject.specs.Method.{AreCoverAndMarks, HaveProducts, IsAnswered, IsFront}
 use Rattle.input_classes.specs.declared.class.Class.{Class}
 use Rattle.input_classes.specs.Partition.{Covers, IsInClass, witnesses}
 use Rattle.subject.specs.Meaning.{Meaning, answer_from, answer, state_after}
-use Rattle.subject.specs.Tests.{AnswersTest}
+use Rattle.subject.specs.Tests.{AnswersTest, IsFirstFailure}
 use Rattle.input_classes.specs.VectorSet.{VectorSet, Members, IsIn, Word, IsWordOf}
 use Rattle.subject.proofs.Method.{all_marks_are_own, tests_decide}
 use Rattle.subject.proofs.Words.{after-state}
@@ -47,6 +54,39 @@ front (x ∷ []) word short = record {
   is = ap (λ y. y ∷ []) (only_one (pressed 0) x (All-head (Contains (witnesses one_class)) x [] word));
 }
 front (x ∷ y ∷ z) word short = let no : ⊥ = omega arith in absurd no
+
+-- words of at most one letter, which is 0
+record IsShort (u : List ℕ) : Type 0 where
+  short : length u ≤ 1
+  letters : AreLetters 1 u
+
+nothing : (i : ℕ) → i < 1 → word ([] ∷ []) i ≡ []
+nothing zero h = refl
+nothing (suc i) h = absurd (omega (arith, h))
+
+product_short : (d : ℕ) (u : List ℕ) → d ≤ 1 → IsProduct 1 ([] ∷ []) ([] ∷ []) d u → IsShort u
+product_short d u few p =
+    let k = p.after in
+    subst IsShort (sym (k.is ∙ (λ j. nothing p.i p.in_cover j ++ (k.z ++ nothing k.k k.mark j)) ∙ append-nil k.z)) (record { short = (let e = k.short in omega (arith, e, few)); letters = k.letters })
+
+one_letter : AreLetters 1 (0 ∷ [])
+one_letter = All-cons (λ a. a < 1) 0 [] (omega arith) (All-nil (λ a. a < 1))
+
+each_one : (P : List ℕ → Type 0) → P (0 ∷ []) → (w : List ℕ) → IsLongest P w → IsShort w → Contains ((0 ∷ []) ∷ []) w
+each_one P p [] h k = absurd (h.longest (0 ∷ []) p (0, ([], refl)))
+each_one P p (a ∷ []) h k =
+    let below = All-head (λ a. a < 1) a [] k.letters in
+    let zero_is : 0 ≡ a = omega (arith, below) in
+    (0, omega arith, ap (λ b. b ∷ []) zero_is)
+each_one P p (a ∷ b ∷ w) h k = let e = k.short in absurd (omega (arith, e))
+
+-- where every product is so short, the one of one letter is the only test
+longest_one : (P : List ℕ → Type 0) → P (0 ∷ []) → ((u : List ℕ) → P u → IsShort u) → AreLongest P ((0 ∷ []) ∷ [])
+longest_one P p short = record {
+  only = All-cons (IsLongest P) (0 ∷ []) [] (record { product = p; longest = λ u k pre. let e = (short u k).short in let is = ap length pre.1.1 in omega (arith, e, is) }) (All-nil (IsLongest P));
+  each = λ w h. each_one P p w h (short w h.product);
+  ascending = λ a b d less below. absurd (omega (arith, less, below));
+}
 
 module _ (sg : Signature) (ranged : ranges_of sg.inputs ≡ (pos 0, pos 0) ∷ []) where
   abbrev m : Meaning ℕ
@@ -134,3 +174,92 @@ module _ (sg : Signature) (ranged : ranges_of sg.inputs ≡ (pos 0, pos 0) ∷ [
   -- no test is too few
   pub too_few : Complete m one_class 1 [] → ⊥
   too_few complete = loud_differs ((complete loud loud_is_inside).0 (All-nil (AnswersTest (answer (plan_of_map loud)))) (pressed 0 ∷ []) press_word)
+
+  alike_any : (u w : Word) → LeadAlike s m u w
+  alike_any u w v k = after-state m u v ∙ ap (λ t. answer_from m t v) (silent_stays 0 u ∙ sym (silent_stays 0 w)) ∙ sym (after-state m w v)
+
+  one_state : HasRank s m 1
+  one_state = record {
+    most = record {
+      words = [] ∷ [];
+      are_words = All-cons (IsWordOf s) [] [] (All-nil (IsIn s)) (All-nil (IsWordOf s));
+      few = omega arith;
+      each = λ w h. ∣ record { like = []; there = (0, omega arith, refl); alike = alike_any w [] } ∣₁;
+    };
+    words = [] ∷ [];
+    are_words = All-cons (IsWordOf s) [] [] (All-nil (IsIn s)) (All-nil (IsWordOf s));
+    many = refl;
+    apart = λ a b d less below. absurd (omega (arith, less, below));
+  }
+
+  each_kind : (p : List ℕ) → IsFirstOfItsKind 1 (LeadAlikeBy m one_class) p → Contains ([] ∷ []) p
+  each_kind [] h = (0, omega arith, refl)
+  each_kind (a ∷ p) h = absurd (h.first [] (All-nil (λ a. a < 1)) (inl (omega arith)) (alike_any [] (in_vectors (witnesses one_class) (a ∷ p))))
+
+  suits : IsSuiteFor m one_class 1 (silent_suite sg)
+  suits = record {
+    signature = refl;
+    same_bound = refl;
+    classes = refl;
+    rank = one_state;
+    few = omega arith;
+    cover = record {
+      only = All-cons (IsFirstOfItsKind 1 (LeadAlikeBy m one_class)) [] [] (record { letters = All-nil (λ a. a < 1); first = λ u h b alike. none_before u b }) (All-nil (IsFirstOfItsKind 1 (LeadAlikeBy m one_class)));
+      each = each_kind;
+      ordered = λ a b d less below. absurd (omega (arith, less, below));
+    };
+    marks = record {
+      one = λ e. refl;
+      next = λ k w many h. absurd (omega (arith, many));
+      ends = λ a b less below agree. omega (arith, less, below);
+    };
+    replies = All-cons (λ (t : Test). t.replies ≡ answer m (in_vectors (pressed 0 ∷ []) t.letters)) (record { letters = 0 ∷ []; replies = [] ∷ [] }) [] refl (All-nil _);
+  }
+
+  own_short : (u : List ℕ) → IsOwnProduct 1 (LeadAlikeBy m one_class) (answer_after m one_class ([] ∷ [])) 1 ([] ∷ []) ([] ∷ []) 1 u → IsShort u
+  own_short u p = subst IsShort (sym (p.is ∙ (λ j. nothing p.p p.in_cover j ++ (p.z ++ own_is p.q p.w p.reached p.own j)) ∙ append-nil p.z)) (record { short = p.short; letters = p.letters })
+    where
+      own_is : (q : ℕ) (w : List ℕ) → q < 1 → IsOwnMark (answer_after m one_class ([] ∷ [])) 1 ([] ∷ []) q w → w ≡ []
+      own_is q w below (inl h) = h.1
+      own_is q w below (inr h) = let other = h.1.0 in absurd (h.1.1.0 (omega (arith, below, other)))
+
+  wp_product_short : (u : List ℕ) → IsWpProduct 1 (LeadAlikeBy m one_class) (answer_after m one_class ([] ∷ [])) 1 ([] ∷ []) ([] ∷ []) 0 u → IsShort u
+  wp_product_short u (inl p) = product_short 0 u (omega arith) p
+  wp_product_short u (inr p) = own_short u p
+
+  -- the suite has both shapes
+  pub has_shape : HasShape m one_class 1 (silent_suite sg)
+  has_shape = record {
+    suits = suits;
+    tests = longest_one (IsProduct 1 ([] ∷ []) ([] ∷ []) 1)
+        (record { i = 0; in_cover = omega arith; after = record { z = 0 ∷ []; k = 0; letters = one_letter; short = omega arith; mark = omega arith; is = refl } })
+        (λ u p. product_short 1 u (omega arith) p);
+  }
+
+  pub has_wp_shape : HasWpShape m one_class 1 (silent_suite sg)
+  has_wp_shape = record {
+    suits = suits;
+    tests = longest_one (IsWpProduct 1 (LeadAlikeBy m one_class) (answer_after m one_class ([] ∷ [])) 1 ([] ∷ []) ([] ∷ []) 0)
+        (inr (record { p = 0; q = 0; z = 0 ∷ []; w = []; in_cover = omega arith; letters = one_letter; short = omega arith; reached = omega arith; alike = alike_any (in_vectors (witnesses one_class) (0 ∷ [])) []; own = inl (refl, refl); is = refl }))
+        wp_product_short;
+  }
+
+  -- a first failure
+  pub fails_first : IsFirstFailure (answer m) loud_press (record { test = 1; step = 1; given = [] })
+  fails_first = record {
+    tests_before = 0;
+    steps_before = 0;
+    failed = record { word = pressed 0 ∷ []; replies = (pos 5 ∷ []) ∷ [] };
+    expected = pos 5 ∷ [];
+    test_number = refl;
+    step_number = refl;
+    there = refl;
+    passed = All-nil (AnswersTest (answer m));
+    same = refl;
+    given = refl;
+    wanted = refl;
+    differs = λ e. nothing_differs e;
+  }
+    where
+      nothing_differs : [] ≡ (pos 5 ∷ []) → ⊥
+      nothing_differs e = cc

@@ -46,4 +46,5 @@ ActsLike s m x y = (u v : Word) → IsWordOf s u → IsWordOf s v → answer m (
 
 -- the members of each class act alike in the plan
 abbrev pub MembersActAlike : {S : Type 0} → VectorSet → Partition → Meaning S → Type 0
-MembersActAlike s r m = (c : Class) → Contains r.classes c → (x y : List ℤ) → IsInClass s r c x → IsInClass s r c y → ActsLike s m x y
+MembersActAlike s r m = (c : Class) → Contains r.classes c → (x y : List ℤ) → IsInClass s r c x → IsInClass s r c y
+    → ActsLike s m x y

@@ -18,7 +18,8 @@ pub record IsFitting (model other : Signature) : Type 0 where
   pub outputs : other.outputs ≡ model.outputs
 
 -- a class that has only members that act like x in both plans
-pub record HasLikeClass {S T : Type 0} (s : VectorSet) (r : Partition) (m : Meaning S) (i : Meaning T) (x : List ℤ) : Type 0 where
+pub record HasLikeClass {S T : Type 0} (s : VectorSet) (r : Partition) (m : Meaning S) (i : Meaning T)
+    (x : List ℤ) : Type 0 where
   pub one : Class
   pub there : Contains r.classes one
   pub in_model : (y : List ℤ) → IsInClass s r one y → ActsLike s m y x
@@ -33,12 +34,13 @@ abbrev pub box : {S : Type 0} → Meaning S → Partition → VectorSet
 box m r = box_of m.signature r.assumed
 
 -- the other plan lies inside the fault domain of the model with the partition and the bound
-pub record Inside {S T : Type 0} (model : Meaning S) (partition : Partition) (bound : ℕ) (other : Meaning T) : Type 0 where
+pub record Inside {S T : Type 0} (model : Meaning S) (partition : Partition) (bound : ℕ)
+    (other : Meaning T) : Type 0 where
   pub fits : IsFitting model.signature other.signature
   pub states : HasAtMost (box model partition) other bound
   pub classes : ActByClasses (box model partition) partition model other
 
--- the tests are complete: every finite map inside passes exactly when it answers every word of the box as the model does
+-- the tests are complete: every finite map inside passes exactly when it answers every word of the box as the model
 abbrev pub Complete : {S : Type 0} → Meaning S → Partition → ℕ → List TestCase → Type 0
 Complete model partition bound tests = (f : FiniteMap) → Inside model partition bound (plan_of_map f)
     → (Passes (answer (plan_of_map f)) tests ↔ Equal (box model partition) (plan_of_map f) model)

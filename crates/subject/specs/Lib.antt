@@ -7,4 +7,4 @@ pub mod Suite
 pub mod Domain
 pub mod Method
 pub mod Shape
-pub mod Lamp
+pub mod inside

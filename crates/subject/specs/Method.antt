@@ -30,7 +30,8 @@ pub record AreOwnMarks {S : Type 0} (m : Meaning S) (cover marks : List Word) (o
   pub apart : (p q : Word) → Contains cover p → Contains cover q → AgreeOn m (own p) p q → p ≡ q
 
 -- after each word of the cover, each word of at most d + 1 vectors and each mark, the plan i answers as m does
-pub record IsTested {S T : Type 0} (s : VectorSet) (m : Meaning S) (i : Meaning T) (cover marks : List Word) (d : ℕ) : Type 0 where
+pub record IsTested {S T : Type 0} (s : VectorSet) (m : Meaning S) (i : Meaning T) (cover marks : List Word)
+    (d : ℕ) : Type 0 where
   pub model : AreCoverAndMarks s m cover marks
   pub answers : (p z w : Word) → Contains cover p → IsWordOf s z → length z ≤ d + 1 → Contains marks w
       → answer i (p ++ (z ++ w)) ≡ answer m (p ++ (z ++ w))
@@ -44,13 +45,13 @@ pub record IsFront (tests : List TestCase) (u : Word) : Type 0 where
 
 -- no product, of a word of the cover, a word of at most d + 1 vectors and a mark, is the front of no test
 abbrev pub HaveProducts : VectorSet → List Word → List Word → ℕ → List TestCase → Type 0
-HaveProducts s cover marks d tests = (p z w : Word) → Contains cover p → IsWordOf s z → length z ≤ d + 1 → Contains marks w
-    → (IsFront tests (p ++ (z ++ w)) → ⊥) → ⊥
+HaveProducts s cover marks d tests =
+    (p z w : Word) → Contains cover p → IsWordOf s z → length z ≤ d + 1 → Contains marks w → (IsFront tests (p ++ (z ++ w)) → ⊥) → ⊥
 
 -- no product of either kind is the front of no test: with a word of at most d vectors and any mark, or with a word of
 -- at most d + 1 vectors and a mark of the word of the cover to which it leads
-pub record HaveOwnProducts {S : Type 0} (s : VectorSet) (m : Meaning S) (cover marks : List Word) (own : Word → List Word)
-    (d : ℕ) (tests : List TestCase) : Type 0 where
+pub record HaveOwnProducts {S : Type 0} (s : VectorSet) (m : Meaning S) (cover marks : List Word)
+    (own : Word → List Word) (d : ℕ) (tests : List TestCase) : Type 0 where
   pub any : (p z w : Word) → Contains cover p → IsWordOf s z → length z ≤ d → Contains marks w
       → (IsFront tests (p ++ (z ++ w)) → ⊥) → ⊥
   pub its_own : (p z q w : Word) → Contains cover p → IsWordOf s z → length z ≤ d + 1
@@ -63,7 +64,8 @@ pub record IsAnswered {S : Type 0} (s : VectorSet) (m : Meaning S) (test : TestC
   pub expected : test.replies ≡ answer m test.word
 
 -- tests that either method makes for a model, a partition and a bound: over the witnesses, with the model's replies
-pub record AreMethodTests {S : Type 0} (model : Meaning S) (partition : Partition) (bound : ℕ) (tests : List TestCase) : Type 0 where
+pub record AreMethodTests {S : Type 0} (model : Meaning S) (partition : Partition) (bound : ℕ)
+    (tests : List TestCase) : Type 0 where
   pub cover : List Word
   pub marks : List Word
   pub own : Word → List Word

@@ -24,7 +24,8 @@ answer_after model partition cover i w =
 
 -- all of the suite but which tests it has: the model's signature, the bound, the witnesses, the rank, the cover, the
 -- marks, and the model's reply to each test
-pub record IsSuiteFor {S : Type 0} (model : Meaning S) (partition : Partition) (bound : ℕ) (suite : SuiteParts) : Type 0 where
+pub record IsSuiteFor {S : Type 0} (model : Meaning S) (partition : Partition) (bound : ℕ)
+    (suite : SuiteParts) : Type 0 where
   pub signature : suite.signature ≡ model.signature
   pub same_bound : suite.bound ≡ bound
   pub classes : suite.classes ≡ witnesses partition
@@ -36,7 +37,8 @@ pub record IsSuiteFor {S : Type 0} (model : Meaning S) (partition : Partition) (
 
 -- the suite of the W-method: the tests are the products of a cover word, a word of at most one letter more than the
 -- bound leaves, and a mark
-pub record HasShape {S : Type 0} (model : Meaning S) (partition : Partition) (bound : ℕ) (suite : SuiteParts) : Type 0 where
+pub record HasShape {S : Type 0} (model : Meaning S) (partition : Partition) (bound : ℕ)
+    (suite : SuiteParts) : Type 0 where
   pub suits : IsSuiteFor model partition bound suite
   pub tests : AreTests (length partition.classes) suite.cover suite.marks (bound - suite.states + 1)
       (map (λ (test : Test). test.letters) suite.tests)
@@ -70,12 +72,13 @@ pub record IsOwnProduct (c : ℕ) (Alike : List ℕ → List ℕ → Type 0) (f 
 
 -- a product of either kind, where d is what the bound leaves: with at most d letters and any mark, or with at most one
 -- letter more and an own mark
-abbrev pub IsWpProduct : ℕ → (List ℕ → List ℕ → Type 0) → (ℕ → List ℕ → List (List ℤ)) → ℕ → List (List ℕ) → List (List ℕ)
-    → ℕ → List ℕ → Type 0
+abbrev pub IsWpProduct : ℕ → (List ℕ → List ℕ → Type 0) → (ℕ → List ℕ → List (List ℤ)) → ℕ
+    → List (List ℕ) → List (List ℕ) → ℕ → List ℕ → Type 0
 IsWpProduct c Alike f n cover marks d t = IsProduct c cover marks d t ⊎ IsOwnProduct c Alike f n cover marks (d + 1) t
 
 -- the suite of the Wp-method
-pub record HasWpShape {S : Type 0} (model : Meaning S) (partition : Partition) (bound : ℕ) (suite : SuiteParts) : Type 0 where
+pub record HasWpShape {S : Type 0} (model : Meaning S) (partition : Partition) (bound : ℕ)
+    (suite : SuiteParts) : Type 0 where
   pub suits : IsSuiteFor model partition bound suite
   pub tests : AreLongest (IsWpProduct (length partition.classes) (LeadAlikeBy model partition)
       (answer_after model partition suite.cover) suite.states suite.cover suite.marks (bound - suite.states))

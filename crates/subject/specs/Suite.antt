@@ -10,7 +10,7 @@ pub record Test : Type 0 where
   pub letters : List ℕ
   pub replies : List (List ℤ)
 
--- a signature, a bound, a number of states, the witnesses of the classes, the words of the cover, the marks, and the tests
+-- a signature, a bound, a number of states, the witnesses of the classes, the words of the cover, the marks, the tests
 pub record SuiteParts : Type 0 where
   pub signature : Signature
   pub bound : ℕ

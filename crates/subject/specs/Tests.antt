@@ -47,9 +47,12 @@ pub record IsFirstFailure (answers : Answers) (tests : List TestCase) (failure :
   pub wanted : slice_get failed.replies steps_before ≡ Some expected
   pub differs : failure.given ≢ expected
 
+abbrev pub no_test : TestCase
+no_test = record { word = []; replies = [] }
+
 -- the word of a failure: the vectors of its test up to its step
 abbrev pub failed_word : List TestCase → Failure → Word
-failed_word tests failure = take failure.step (slice_index_or tests (failure.test - 1) (record { word = []; replies = [] })).word
+failed_word tests failure = take failure.step (slice_index_or tests (failure.test - 1) no_test).word
 
 -- two answers to a word differ at its last vector and at no earlier one
 pub record PartAtLast (first second : Answers) (word : Word) : Type 0 where

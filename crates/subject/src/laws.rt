@@ -52,9 +52,10 @@ pub fn replies_after<P: Plan>(plan: &P)
 {}
 
 /// A plan is equal to itself, equality is symmetric, and it passes on.
-pub fn equality<P: Plan, Q: Plan, R: Plan>(first: &P, second: &Q, third: &R)
+pub fn equality_of_plans<P: Plan, Q: Plan, R: Plan>(first: &P, second: &Q, third: &R)
     ensures itself { let a = P.plan first.now in (s : VectorSet) → Equal s a a }
-    ensures turned { let a = P.plan first.now in let b = Q.plan second.now in (s : VectorSet) → Equal s a b → Equal s b a }
+    ensures turned { let a = P.plan first.now in let b = Q.plan second.now in
+        (s : VectorSet) → Equal s a b → Equal s b a }
     ensures passed_on { let a = P.plan first.now in let b = Q.plan second.now in let c = R.plan third.now in
         (s : VectorSet) → Equal s a b → Equal s b c → Equal s a c }
 {}
@@ -98,7 +99,7 @@ pub fn acting_alike<P: Plan>(plan: &P)
 {}
 
 /// Words that cannot lead differently lead alike, and plans that cannot but be equal are equal.
-pub fn stability<P: Plan, Q: Plan>(plan: &P, other: &Q)
+pub fn what_cannot_differ_is_the_same<P: Plan, Q: Plan>(plan: &P, other: &Q)
     ensures alike { let m = P.plan plan.now in
         (s : VectorSet) (u w : Word) → (LeadDifferently s m u w → ⊥) → LeadAlike s m u w }
     ensures equal { let a = P.plan plan.now in let b = Q.plan other.now in
@@ -110,7 +111,7 @@ pub fn stability<P: Plan, Q: Plan>(plan: &P, other: &Q)
 pub fn rank_is_least<P: Plan>(plan: &P)
     ensures least { let m = P.plan plan.now in (s : VectorSet) (k n : ℕ) → HasRank s m k → HasAtMost s m n → k ≤ n }
     ensures one { let m = P.plan plan.now in (s : VectorSet) (k n : ℕ) → HasRank s m k → HasRank s m n → k ≡ n }
-    ensures more { let m = P.plan plan.now in (s : VectorSet) (n k : ℕ) → HasAtMost s m n → n ≤ k → HasAtMost s m k }
+    ensures more { let m = P.plan plan.now in (s : VectorSet) (k n : ℕ) → HasAtMost s m k → k ≤ n → HasAtMost s m n }
     ensures within { let m = P.plan plan.now in
         (s t : VectorSet) (k n : ℕ) → ((x : List ℤ) → IsIn t x → IsIn s x) → HasRank t m k → HasAtMost s m n → k ≤ n }
     ensures apart { let m = P.plan plan.now in
@@ -146,9 +147,9 @@ pub fn states_over_witnesses<P: Plan>(plan: &P)
         → HasRank (Members (witnesses r)) m n → HasRank s m n }
 {}
 
-/// Where every vector has a class that acts like it in both plans: plans that answer words of witnesses alike are equal,
-/// and words that lead alike over words of witnesses lead alike.
-pub fn lift<P: Plan, Q: Plan>(model: &P, other: &Q)
+/// Where every vector has a class that acts like it in both plans: plans that answer words of witnesses alike are
+/// equal, and words that lead alike over words of witnesses lead alike.
+pub fn witnesses_show_all_words<P: Plan, Q: Plan>(model: &P, other: &Q)
     ensures equal { let m = P.plan model.now in let i = Q.plan other.now in
         (s : VectorSet) (r : Partition) → Covers s r → ActByClasses s r m i
         → Equal (Members (witnesses r)) i m → Equal s i m }
@@ -161,7 +162,8 @@ pub fn lift<P: Plan, Q: Plan>(model: &P, other: &Q)
 /// states on.
 pub fn model_is_inside<P: Plan>(model: &P)
     ensures { let m = P.plan model.now in
-        (r : Partition) (n : ℕ) → Covers (box m r) r → MembersActAlike (box m r) r m → HasAtMost (box m r) m n → Inside m r n m }
+        (r : Partition) (n : ℕ) → Covers (box m r) r → MembersActAlike (box m r) r m → HasAtMost (box m r) m n
+        → Inside m r n m }
 {}
 
 /// The theorem of the W-method (Chow 1978): a plan with at most `d` states more than the cover has words, counted over
@@ -189,8 +191,8 @@ pub fn cover_is_rank<P: Plan>(plan: &P)
 /// The W-method as the Wp-method in which all marks are the own marks of each word of the cover.
 pub fn all_marks_are_own<P: Plan>(model: &P)
     ensures { let m = P.plan model.now in
-        (r : Partition) (n : ℕ) (cover marks : List Word) (tests : List TestCase) → Covers (box m r) r → length cover ≤ n
-        → AreCoverAndMarks (Members (witnesses r)) m cover marks
+        (r : Partition) (n : ℕ) (cover marks : List Word) (tests : List TestCase) → Covers (box m r) r
+        → length cover ≤ n → AreCoverAndMarks (Members (witnesses r)) m cover marks
         → HaveProducts (Members (witnesses r)) cover marks (n - length cover) tests
         → All (IsAnswered (box m r) m) tests → AreMethodTests m r n tests }
 {}
@@ -213,14 +215,14 @@ pub fn verdict_is_one()
     ensures either { (answers : Answers) (tests : List TestCase) → ((w : Word) → length (answers w) ≡ length w)
         → All (λ test. length test.replies ≡ length test.word) tests
         → Passes answers tests ⊎ ((failure : Failure) × IsFirstFailure answers tests failure) }
-    ensures not_both { (answers : Answers) (tests : List TestCase) (failure : Failure) → IsFirstFailure answers tests failure
-        → Passes answers tests → ⊥ }
+    ensures not_both { (answers : Answers) (tests : List TestCase) (failure : Failure)
+        → IsFirstFailure answers tests failure → Passes answers tests → ⊥ }
     ensures one { (answers : Answers) (tests : List TestCase) (f g : Failure) → IsFirstFailure answers tests f
         → IsFirstFailure answers tests g → f ≡ g }
 {}
 
-/// A first failure of a plan on tests with the model's replies shows a word of their set to which the two answers differ
-/// at the last vector and at no earlier one, so the plans are not equal.
+/// A first failure of a plan on tests with the model's replies shows a word of their set to which the two answers
+/// differ at the last vector and at no earlier one, so the plans are not equal.
 pub fn failure_shows_a_difference<P: Plan, Q: Plan>(model: &P, other: &Q)
     ensures word { let m = P.plan model.now in let i = Q.plan other.now in
         (s : VectorSet) (tests : List TestCase) (failure : Failure) → All (IsAnswered s m) tests

@@ -16,11 +16,11 @@ mod tests;
 pub use case::Case;
 pub use cases::Cases;
 pub use laws::{
-    acting_alike, all_marks_are_own, box_lies_in_ranges, cover_is_rank, equality,
-    failure_shows_a_difference, leading_alike, lift, model_is_inside, partition_covers_the_box,
-    rank_is_least, reaching, replies_after, same_steps_act_alike, stability, states_over_witnesses,
+    acting_alike, all_marks_are_own, box_lies_in_ranges, cover_is_rank, equality_of_plans,
+    failure_shows_a_difference, leading_alike, model_is_inside, partition_covers_the_box,
+    rank_is_least, reaching, replies_after, same_steps_act_alike, states_over_witnesses,
     tested_plan_inside_is_equal, tested_plan_is_equal, tests_are_complete, tests_decide,
-    verdict_is_one, witnesses_stand_in,
+    verdict_is_one, what_cannot_differ_is_the_same, witnesses_show_all_words, witnesses_stand_in,
 };
 pub use plan::Plan;
 pub use replies::answers;

@@ -57,7 +57,8 @@ pub fn suites_are_complete<P: Plan>(model: &P)
     ensures shape { let m = P.plan model.now in
         (r : Partition) (n : ℕ) (s : SuiteParts) → Covers (box m r) r → HasShape m r n s → Complete m r n (tests_of s) }
     ensures wp_shape { let m = P.plan model.now in
-        (r : Partition) (n : ℕ) (s : SuiteParts) → Covers (box m r) r → HasWpShape m r n s → Complete m r n (tests_of s) }
+        (r : Partition) (n : ℕ) (s : SuiteParts) → Covers (box m r) r → HasWpShape m r n s
+        → Complete m r n (tests_of s) }
 {}
 
 /// At most one suite has the shape.

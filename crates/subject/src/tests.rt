@@ -1,13 +1,10 @@
 //! Finite maps with answers that were worked out by hand, and a lamp, on which the definitions are tried.
-ghost use Rattle.std.specs.Prelude.{◌≡◌, ◌↔◌, ℕ, pos, [], ◌∷◌, IfOk, IsTrue};
+ghost use Rattle.std.specs.Prelude.{◌≡◌, ◌↔◌, pos, [], ◌∷◌, IfOk, IsTrue};
 ghost use Rattle.std.specs.List.{All};
 ghost use Rattle.lin_form.specs.Signature.{IsInInputRanges, ranges_of};
-ghost use Rattle.subject.specs.Alike.{ActsLike, HasAtMost, HasRank};
-ghost use Rattle.subject.specs.Domain.{Complete};
-ghost use Rattle.subject.specs.FiniteMap.{plan_of_map};
-ghost use Rattle.subject.specs.Method.{IsTested};
-ghost use Rattle.input_classes.specs.VectorSet.{box_of};
-ghost use Rattle.subject.specs.Lamp.{entry, lamp, one_class, one_press, pressed};
+ghost use Rattle.subject.specs.inside.Examples.{entry, lamp};
+
+mod definitions;
 
 use super::*;
 use lin_form::{Input, Inputs, Name, Names, Reply, Signature, Vector};
@@ -138,19 +135,6 @@ fn lamp(rt: &impl Abort, alloc: Global) -> Result<Cases, AllocError>
     Ok(Cases::new(signature(rt, alloc, 2)?, entries))
 }
 
-/// The two positions act alike, the position 0 does not act like them, there are two states and not one, and the lamp
-/// is tested by the empty word and a press, which a press tells apart.
-fn is_as_defined(plan: &Cases)
-    requires entries { plan.now.entries ≡ lamp }
-    requires ranges { ranges_of plan.now.signature.inputs ≡ (pos 0, pos 2) ∷ [] }
-    ensures alike { ActsLike (box_of plan.now.signature []) (plan_of_map plan.now) (pressed 1) (pressed 2) }
-    ensures apart { ActsLike (box_of plan.now.signature []) (plan_of_map plan.now) (pressed 0) (pressed 1) → ⊥ }
-    ensures two { HasRank (box_of plan.now.signature []) (plan_of_map plan.now) 2 }
-    ensures not_one { HasAtMost (box_of plan.now.signature []) (plan_of_map plan.now) 1 → ⊥ }
-    ensures tested { let m = plan_of_map plan.now in
-        (d : ℕ) → IsTested (box_of plan.now.signature []) m m ([] ∷ (pressed 1 ∷ []) ∷ []) ((pressed 1 ∷ []) ∷ []) d }
-{}
-
 /// A button with one position, which does nothing.
 fn silent(rt: &impl Abort, alloc: Global) -> Result<Cases, AllocError>
     ensures entries { IfOk result (λ cases. cases.entries ≡ []) }
@@ -159,18 +143,10 @@ fn silent(rt: &impl Abort, alloc: Global) -> Result<Cases, AllocError>
     Ok(Cases::new(signature(rt, alloc, 0)?, Vec::new(alloc)))
 }
 
-/// One press is a complete test at the bound 1, and no test at all is not.
-fn is_tested(plan: &Cases)
-    requires entries { plan.now.entries ≡ [] }
-    requires ranges { ranges_of plan.now.signature.inputs ≡ (pos 0, pos 0) ∷ [] }
-    ensures enough { Complete (plan_of_map plan.now) one_class 1 one_press }
-    ensures too_few { Complete (plan_of_map plan.now) one_class 1 [] → ⊥ }
-{}
-
 #[test]
 fn a_button_that_does_nothing(rt: HostRuntime) -> Result<(), Fail> {
     let plan = silent(&rt, rt.alloc())?;
-    is_tested(&plan);
+    definitions::button_is_as_defined(&plan);
     expect(&rt, rt.alloc(), &plan, (&[0], &[&[]]))
 }
 
@@ -182,7 +158,9 @@ fn a_lamp(rt: HostRuntime) -> Result<(), Fail> {
         (&[1, 0, 0, 1], &[&[1], &[], &[], &[0]]),
     ];
     let plan = lamp(&rt, rt.alloc())?;
-    is_as_defined(&plan);
+    definitions::classes_are_as_defined();
+    definitions::lamp_is_as_defined(&plan);
+    definitions::domain_is_as_defined(&plan);
     for wanted in words {
         expect(&rt, rt.alloc(), &plan, wanted)?;
     }

@@ -1,12 +1,12 @@
 use Rattle.std.proofs.Common.{◌≡◌, ◌≤◌, [], ◌∷◌, sym, subst, arith}
 use Rattle.subject.specs.Alike.{ActsLike, HasRank}
 use Rattle.subject.specs.FiniteMap.{FiniteMap, plan_of_map}
-use Rattle.subject.specs.Lamp.{lamp, pressed}
+use Rattle.subject.specs.inside.Examples.{lamp, pressed}
 use Rattle.subject.specs.Method.{IsTested}
 use Rattle.input_classes.specs.VectorSet.{box_of}
 use Rattle.subject.proofs.Lamp.{lamp_is_tested, presses_alike, presses_apart, two_states}
 use Rattle.subject.proofs.Ranks.{rank_within}
-use Rattle.subject.proofs.tests.is_as_defined.Goals as goal
+use Rattle.subject.proofs.tests.definitions.lamp_is_as_defined.Goals as goal
 
 is_lamp : (f : FiniteMap) → f.entries ≡ lamp → record { signature = f.signature; entries = lamp } ≡ f
 is_lamp f e = λ i. record { signature = f.signature; entries = sym e i }

@@ -1,6 +1,6 @@
 use Rattle.subject.specs.Meaning.{answer, after}
 use Rattle.subject.proofs.Lifting.{stable}
-use Rattle.subject.proofs.laws.stability.Goals as goal
+use Rattle.subject.proofs.laws.what_cannot_differ_is_the_same.Goals as goal
 
 pub returns-clause-alike : goal.returns-clause-alike
 returns-clause-alike g c = λ s u w never v h. stable (after (g.P.Plan.plan c.args.plan.now) u v) (after (g.P.Plan.plan c.args.plan.now) w v) (λ differ. never (λ alike. differ (alike v h)))
