@@ -1,0 +1,5 @@
+pub mod Saying
+pub mod Leading
+pub mod Keeping
+pub mod Printing
+pub mod Whole

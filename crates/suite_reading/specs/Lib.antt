@@ -1,0 +1,5 @@
+pub mod Items
+pub mod State
+pub mod Checks
+pub mod Reading
+pub mod inside
