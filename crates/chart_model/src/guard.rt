@@ -1,7 +1,8 @@
-ghost use Rattle.std.specs.Prelude.{◌≡◌, length};
-ghost use Rattle.chart_model.specs.Guard.{plain, truth_of_guard, IsReadableGuard};
+ghost use Rattle.std.specs.Prelude.{◌≡◌, ◌++◌, IfOk, OnOk, length, map};
+ghost use Rattle.chart_model.specs.Guard.{comparisons_of, plain, truth_of_guard, IsReadableGuard};
 
 use lin_form::{Comparison, Vector, holds};
+use std::alloc::{AllocError, Global};
 use std::marker::Model;
 
 /// A condition on the input vector and the memories. Chains of `and` and of `or` associate to the left.
@@ -51,6 +52,43 @@ impl Condition {
     {
         guard_holds(&self.guard, vector, memory)
     }
+
+    /// The comparisons in written order.
+    pub fn comparisons(&self, alloc: Global) -> Result<Vec<&Comparison>, AllocError>
+        ensures { IfOk result (λ found. map (λ comparison. comparison.now) found.items ≡ comparisons_of self.now) }
+    {
+        let mut found = Vec::new(alloc);
+        self.add_comparisons(&mut found)?;
+        Ok(found)
+    }
+
+    /// Puts the comparisons in written order behind others.
+    pub fn add_comparisons<'a>(&'a self, found: &mut Vec<&'a Comparison>) -> Result<(), AllocError>
+        ensures { OnOk result (map (λ comparison. comparison.now) found.new.items
+            ≡ map (λ comparison. comparison.now) found.old.items ++ comparisons_of self.now) }
+    {
+        add_comparisons(&self.guard, found)
+    }
+}
+
+/// Puts the comparisons of a guard behind those found so far.
+fn add_comparisons<'a>(guard: &'a Guard, found: &mut Vec<&'a Comparison>) -> Result<(), AllocError>
+    ensures { OnOk result (map (λ comparison. comparison.now) found.new.items
+        ≡ map (λ comparison. comparison.now) found.old.items ++ comparisons_of (plain guard.now)) }
+{
+    match guard {
+        Guard::Test(comparison) => found.push(comparison)?,
+        Guard::Not(inner) => add_comparisons(inner, found)?,
+        Guard::And(left, right) => {
+            add_comparisons(left, found)?;
+            add_comparisons(right, found)?;
+        }
+        Guard::Or(left, right) => {
+            add_comparisons(left, found)?;
+            add_comparisons(right, found)?;
+        }
+    }
+    Ok(())
 }
 
 /// Whether the guard is true for an input vector and the memories' values.

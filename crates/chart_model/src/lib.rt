@@ -5,6 +5,7 @@ mod action;
 mod chart;
 mod cuts;
 mod guard;
+mod laws;
 mod state;
 #[cfg(test)]
 mod tests;
@@ -14,5 +15,6 @@ pub use action::{Action, Place};
 pub use chart::Chart;
 pub use cuts::Cuts;
 pub use guard::{Condition, Guard, guard_holds};
+pub use laws::comparisons_decide_guards;
 pub use state::{Memory, State};
 pub use transition::Transition;
