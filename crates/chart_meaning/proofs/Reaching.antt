@@ -25,7 +25,7 @@ IsLastOf-prop chart s (Some child) = hlevel props
 IsConfiguration-prop : (chart : Chart) (c : Configuration) → IsProp (IsConfiguration chart c)
 IsConfiguration-prop chart c = hlevel (props, AllZip-prop, IsLastOf-prop)
 
-walked : (chart : Chart) (c : Configuration) (w : Word) → IsConfiguration chart c → IsConfiguration chart (state_after (plan_of_chart chart) c w)
+pub walked : (chart : Chart) (c : Configuration) (w : Word) → IsConfiguration chart c → IsConfiguration chart (state_after (plan_of_chart chart) c w)
 walked chart c [] h = h
 walked chart c (x ∷ w) h = walked chart (next_of chart c x) w (IsConfiguration-next chart c x h)
 

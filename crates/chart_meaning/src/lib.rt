@@ -17,5 +17,5 @@ mod tests;
 mod tree;
 
 pub use config::Config;
-pub use laws::ways_are_whole;
+pub use laws::{configurations_go_on, guards_decide_steps, ways_are_whole};
 pub use plan::ChartPlan;
