@@ -7,7 +7,8 @@ use Rattle.input_classes.specs.declared.class.Class.{Class}
 use Rattle.input_classes.specs.Partition.{Partition, IsPartition}
 
 abbrev pub partition_of : List Atom → List (ℤ × ℤ) → List Literal → List Class → Partition
-partition_of atoms ranges assumed classes = record { atoms = atoms; ranges = ranges; assumed = assumed; classes = classes }
+partition_of atoms ranges assumed classes =
+    record { atoms = atoms; ranges = ranges; assumed = assumed; classes = classes }
 
 -- its classes are exactly those that the definition gives, at least one and at most 4,096 of them
 pub record IsExactPartition (r : Partition) : Type 0 where

@@ -11,7 +11,8 @@ use Rattle.class_split.specs.declared.splitting.SplitError.{SplitError}
 use Rattle.class_split.specs.declared.splitting.SplitError.TheVariants.{TooMany, NoInput, Memory}
 
 -- the partition by these atoms, ranges and assumed literals: their box has a vector, and at most 4,096 patterns
-pub record IsPartitionOf (atoms : List Atom) (ranges : List (ℤ × ℤ)) (assumed : List Literal) (r : Partition) : Type 0 where
+pub record IsPartitionOf (atoms : List Atom) (ranges : List (ℤ × ℤ)) (assumed : List Literal) (r : Partition)
+    : Type 0 where
   pub same_atoms : r.atoms ≡ atoms
   pub same_ranges : r.ranges ≡ ranges
   pub same_assumed : r.assumed ≡ assumed

@@ -1,7 +1,6 @@
-ghost use Rattle.std.specs.Prelude.{◌≡◌, ℤ, pos, neg_ℤ, ◌-ℤ◌, List, length, get_or, IfSome, MatchBool};
-ghost use Rattle.lin_form.specs.Form.{sum_of_products};
+ghost use Rattle.std.specs.Prelude.{◌≡◌, pos, neg_ℤ, ◌-ℤ◌, length, IfSome, MatchBool};
 ghost use Rattle.linear_refuter.specs.Cut.{IsCut, above, below};
-ghost use Rattle.class_split.specs.inside.Region.{IsCutOf};
+ghost use Rattle.class_split.specs.inside.Region.{IsCutOf, IsSingle};
 
 use lin_form::Atom;
 use linear_refuter::Part;
@@ -34,7 +33,7 @@ fn leading(atom: &Atom) -> usize {
 
 /// Whether the coefficient of this variable is 1, and every other is 0.
 fn is_single(atom: &Atom, variable: usize) -> bool
-    ensures { MatchBool result ((x : List ℤ) → length atom.now.coefficients ≡ length x → sum_of_products atom.now.coefficients x ≡ get_or x variable (pos 0)) (Unit {0}) }
+    ensures { MatchBool result (IsSingle atom.now variable) (Unit {0}) }
 {
     for (index, coefficient) in atom.coefficients.as_slice().iter().enumerate() {
         if index == variable {

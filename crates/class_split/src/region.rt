@@ -67,7 +67,8 @@ fn reduced(
 /// Whether a literal does not follow from the ranges or from one of these literals.
 fn is_new(literals: &[Literal], part: &Part, literal: &Literal) -> bool
     requires { length literal.now.atom.coefficients ≡ length part.now }
-    ensures { MatchBool result (Unit {0}) ((x : List ℤ) → IsInRanges part.now x → AreAsSaid literals.now x → IsAsSaid literal.now x) }
+    ensures { MatchBool result (Unit {0})
+        ((x : List ℤ) → IsInRanges part.now x → AreAsSaid literals.now x → IsAsSaid literal.now x) }
 {
     match implied(literals, part, &literal.atom) {
         None => true,

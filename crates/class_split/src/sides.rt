@@ -7,7 +7,8 @@ use crate::region::restricted;
 use lin_form::{Atom, atom_holds};
 use std::alloc::{AllocError, Global};
 
-/// The vectors of a node on which an atom does not hold, and those on which it holds, or all where only one side has one.
+/// The vectors of a node on which an atom does not hold, and those on which it holds, or all where only one side has
+/// one.
 #[derive(Drop)]
 pub(crate) enum Sides {
     One(Node),

@@ -26,8 +26,8 @@ pub enum SplitError {
 /// The input equivalence classes of a box by the truths of the atoms (Huang and Peleska).
 ///
 /// The box is the vectors of the bounds on which each assumed literal is as it says. The atoms are taken one by one,
-/// the side on which one does not hold first. A vector is asked for only on a side that the known vector is not on, and
-/// only where neither the ranges nor a kept literal tell the atom's truth. No least vector is sought before all patterns
+/// the side on which one does not hold first. A vector is asked for only on a side that the known vector is not on,
+/// where neither the ranges nor a kept literal tell the atom's truth. No least vector is sought before all patterns
 /// are known.
 pub fn split(
     alloc: Global,

@@ -52,8 +52,10 @@ pub record AreSameRegions (one other : Region) : Type 0 where
 -- the vectors of a region on which the n-th atom has this truth, as a node
 pub record IsSide (atoms : List Atom) (n : ℕ) (region : Region) (holds : Bool) (next : Node) : Type 0 where
   pub node : IsNode atoms (n + 1) next
-  pub from : (x : List ℤ) → IsInRegion next.region x → IsInRegion region x × ((d : Atom) → atom_truth (get_or atoms n d) x ≡ holds)
-  pub into : (x : List ℤ) → IsInRegion region x → ((d : Atom) → atom_truth (get_or atoms n d) x ≡ holds) → IsInRegion next.region x
+  pub from : (x : List ℤ) → IsInRegion next.region x
+      → IsInRegion region x × ((d : Atom) → atom_truth (get_or atoms n d) x ≡ holds)
+  pub into : (x : List ℤ) → IsInRegion region x → ((d : Atom) → atom_truth (get_or atoms n d) x ≡ holds)
+      → IsInRegion next.region x
 
 -- the two sides of a region, or the region where one of them is empty
 abbrev pub AreSides : List Atom → ℕ → Region → Sides → Type 0
@@ -81,7 +83,9 @@ pub record Adds (atoms : List Atom) (region : Region) (done : Bool) (old new : L
   pub added : new ≡ old ++ more
   pub leaves : All (IsLeaf atoms region) more
   pub ascending : AreAscending (leaf_patterns atoms more)
-  pub all : MatchBool done (((x : List ℤ) → IsInRegion region x → IsLeafOf atoms more x) × (length new ≤ 4096)) (4096 < length new)
+  pub all : MatchBool done
+      (((x : List ℤ) → IsInRegion region x → IsLeafOf atoms more x) × (length new ≤ 4096))
+      (4096 < length new)
 
 -- the node of all vectors of a box, or a refutation of the assumed literals
 pub record IsStart (atoms : List Atom) (ranges : List (ℤ × ℤ)) (assumed : List Literal) (node : Node) : Type 0 where

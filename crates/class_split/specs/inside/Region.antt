@@ -17,6 +17,11 @@ pub record IsInRegion (region : Region) (vector : List ℤ) : Type 0 where
   pub inside : IsInRanges region.part vector
   pub said : AreAsSaid region.kept.items vector
 
+-- the value of the atom's form without its constant is the number of the variable
+abbrev pub IsSingle : Atom → ℕ → Type 0
+IsSingle atom variable =
+    (x : List ℤ) → length atom.coefficients ≡ length x → sum_of_products atom.coefficients x ≡ get_or x variable (pos 0)
+
 -- a cut of a part on whose two sides an atom of one variable is false and true
 pub record IsCutOf (part : List (ℤ × ℤ)) (atom : Atom) (variable : ℕ) (at : ℤ) : Type 0 where
   pub cut : IsCut part variable at
