@@ -1,10 +1,10 @@
 -- What holds of a state holds after one more item that passes its checks.
-use Rattle.std.proofs.Common.{◌≡◌, ℕ, zero, suc, ◌+◌, ◌-◌, ◌<◌, ◌≤◌, Bool, true, false, not, ◌&&◌, cond, ℤ, pos, negsuc, List, [], ◌∷◌, ◌++◌, length, map, refl, sym, ap, ◌∙◌, subst, arith, length-append, nat_lt, nat_le, Option, None, Some, eqb, get_or}
+use Rattle.std.proofs.Common.{◌≡◌, ℕ, zero, suc, ◌<◌, ◌≤◌, Bool, true, false, not, ◌&&◌, cond, ℤ, pos, negsuc, List, [], ◌∷◌, ◌++◌, length, map, refl, sym, ap, ◌∙◌, subst, arith, length-append, nat_lt, Option, None, Some, eqb, get_or}
 use Rattle.std.specs.List.{All, list_all}
 use Rattle.std.proofs.lemmas.Bool.{false≢true, ltb-true}
 use Rattle.std.proofs.lemmas.Bool.Decides.{Decides-eqb}
 use Rattle.std.proofs.lemmas.Int.{ints}
-use Rattle.std.specs.Int.Signed.{le_z, le_z_yes, ◌≤ℤ◌}
+use Rattle.std.specs.Int.Signed.{le_z, ◌≤ℤ◌}
 use Rattle.std.specs.Prelude.{int_le}
 use Rattle.std.proofs.lemmas.List.{length-map}
 use Rattle.std.proofs.lemmas.List.Elements.{All-push, All-cons, All-nil}
@@ -18,8 +18,8 @@ use Rattle.suite_reading.specs.declared.place.Place.TheVariants as place
 use Rattle.suite_reading.specs.declared.place.LineKind.{LineKind}
 use Rattle.suite_reading.specs.declared.place.LineKind.TheVariants as kind
 use Rattle.suite_reading.specs.Items.{Item, SuiteLine, InputLine, OutputLine, BoundLine, StatesLine, ClassLine, CoverLine, MarkLine, TestLine, StepLine, EndLine}
-use Rattle.suite_reading.specs.State.{State, begun, next, no_test, letter_of, with_reply, after_step, AreRuled}
-use Rattle.suite_reading.specs.Checks.{checks, first_of, unless, may_stand, is_letter, is_between, is_in_box}
+use Rattle.suite_reading.specs.State.{State, begun, next, no_test, letter_of, with_reply, AreRuled}
+use Rattle.suite_reading.specs.Checks.{checks, first_of, unless, may_stand, is_letter, is_in_box}
 use Rattle.suite_reading.specs.inside.Kept.{level, IsCounted, IsRuled, Kept}
 
 nth : (cs : List (Option Cause)) (k : ℕ) → first_of cs ≡ None → get_or cs k None ≡ None
@@ -459,10 +459,18 @@ module _ (s : State) (v reply : List ℤ) (c : IsCounted s) (r : IsRuled s) (may
       → Kept (cond b (record s { place = place.Steps; now = with_reply s.now reply }) (record s { place = place.Tests; tests = s.tests ++ with_reply s.now reply ∷ []; now = no_test }))
   by_end true e = record {
     counted = record {
-      few_inputs = c.few_inputs; few_outputs = c.few_outputs; few_classes = c.few_classes;
-      inputs = λ h. c.inputs (omega (arith, at_steps)); outputs = λ h. c.outputs (omega (arith, at_steps)); tests = λ h. absurd (omega (arith, h));
-      no_inputs = λ h. absurd (omega (arith, h)); no_outputs = λ h. absurd (omega (arith, h)); no_classes = λ h. absurd (omega (arith, h));
-      no_cover = λ h. absurd (omega (arith, h)); no_marks = λ h. absurd (omega (arith, h)); no_tests = λ h. absurd (omega (arith, h));
+      few_inputs = c.few_inputs;
+      few_outputs = c.few_outputs;
+      few_classes = c.few_classes;
+      inputs = λ h. c.inputs (omega (arith, at_steps));
+      outputs = λ h. c.outputs (omega (arith, at_steps));
+      tests = λ h. absurd (omega (arith, h));
+      no_inputs = λ h. absurd (omega (arith, h));
+      no_outputs = λ h. absurd (omega (arith, h));
+      no_classes = λ h. absurd (omega (arith, h));
+      no_cover = λ h. absurd (omega (arith, h));
+      no_marks = λ h. absurd (omega (arith, h));
+      no_tests = λ h. absurd (omega (arith, h));
       closed = λ n. absurd (n refl);
       opened = λ h. ltb-true _ _ e;
     };
@@ -470,15 +478,28 @@ module _ (s : State) (v reply : List ℤ) (c : IsCounted s) (r : IsRuled s) (may
   }
   by_end false e = record {
     counted = record {
-      few_inputs = c.few_inputs; few_outputs = c.few_outputs; few_classes = c.few_classes;
-      inputs = λ h. c.inputs (omega (arith, at_steps)); outputs = λ h. c.outputs (omega (arith, at_steps)); tests = λ h. omega (arith, length-append s.tests (with_reply s.now reply ∷ []));
-      no_inputs = λ h. absurd (omega (arith, h)); no_outputs = λ h. absurd (omega (arith, h)); no_classes = λ h. absurd (omega (arith, h));
-      no_cover = λ h. absurd (omega (arith, h)); no_marks = λ h. absurd (omega (arith, h)); no_tests = λ h. absurd (omega (arith, h));
+      few_inputs = c.few_inputs;
+      few_outputs = c.few_outputs;
+      few_classes = c.few_classes;
+      inputs = λ h. c.inputs (omega (arith, at_steps));
+      outputs = λ h. c.outputs (omega (arith, at_steps));
+      tests = λ h. omega (arith, length-append s.tests (with_reply s.now reply ∷ []));
+      no_inputs = λ h. absurd (omega (arith, h));
+      no_outputs = λ h. absurd (omega (arith, h));
+      no_classes = λ h. absurd (omega (arith, h));
+      no_cover = λ h. absurd (omega (arith, h));
+      no_marks = λ h. absurd (omega (arith, h));
+      no_tests = λ h. absurd (omega (arith, h));
       closed = λ n. refl;
       opened = λ h. absurd (omega (arith, ap level h));
     };
-    ruled = record { vectors = r.vectors; cover = r.cover; marks = r.marks; tests = All-push (AreRuled (length s.classes) (length s.outputs)) s.tests (with_reply s.now reply) r.tests ruled_now;
-      now = ruled_none _ _ no_test refl };
+    ruled = record {
+      vectors = r.vectors;
+      cover = r.cover;
+      marks = r.marks;
+      tests = All-push (AreRuled (length s.classes) (length s.outputs)) s.tests (with_reply s.now reply) r.tests ruled_now;
+      now = ruled_none _ _ no_test refl;
+    };
   }
 
   pub kept_step : Kept (next s (StepLine v reply))
@@ -499,8 +520,10 @@ kept s (StatesLine n) e k = let may = fact (checks s (StatesLine n)) 0 (may_stan
 kept s (ClassLine zs) e k =
     let cs = checks s (ClassLine zs) in
     let may = (both (may_stand kind.Class s.place) (eqb (length zs) (length s.inputs)) (fact cs 0 (may_stand kind.Class s.place && eqb (length zs) (length s.inputs)) _ e refl)).0 in
-    record { counted = counted_classline s zs k.counted may (ltb-true _ _ (fact cs 2 (nat_lt (length s.classes) 4096) _ e refl));
-      ruled = ruled_classline s zs k.counted k.ruled may (fact cs 3 (is_in_box s.inputs zs) _ e refl) }
+    record {
+      counted = counted_classline s zs k.counted may (ltb-true _ _ (fact cs 2 (nat_lt (length s.classes) 4096) _ e refl));
+      ruled = ruled_classline s zs k.counted k.ruled may (fact cs 3 (is_in_box s.inputs zs) _ e refl);
+    }
 kept s (CoverLine zs) e k =
     let cs = checks s (CoverLine zs) in
     let may = fact cs 0 (may_stand kind.Cover s.place) _ e refl in
@@ -516,7 +539,7 @@ kept s (TestLine zs) e k =
 kept s (StepLine v reply) e k =
     let cs = checks s (StepLine v reply) in
     let all = both (may_stand kind.Step s.place && eqb (length v) (length s.inputs)) (eqb (length reply) (length s.outputs))
-      (fact cs 0 ((may_stand kind.Step s.place && eqb (length v) (length s.inputs)) && eqb (length reply) (length s.outputs)) _ e refl) in
+    (fact cs 0 ((may_stand kind.Step s.place && eqb (length v) (length s.inputs)) && eqb (length reply) (length s.outputs)) _ e refl) in
     let front = both (may_stand kind.Step s.place) (eqb (length v) (length s.inputs)) all.0 in
     kept_step s v reply k.counted k.ruled front.0 ((Decides-eqb (length reply) (length s.outputs)).0 all.1)
 kept s (EndLine z) e k = let may = fact (checks s (EndLine z)) 0 (may_stand kind.End s.place) _ e refl in record { counted = counted_endline s z k.counted may; ruled = ruled_endline s z k.counted k.ruled may }
@@ -524,9 +547,18 @@ kept s (EndLine z) e k = let may = fact (checks s (EndLine z)) 0 (may_stand kind
 pub kept_begun : Kept begun
 kept_begun = record {
   counted = record {
-    few_inputs = omega arith; few_outputs = omega arith; few_classes = omega arith;
-    inputs = λ h. absurd (omega (arith, h)); outputs = λ h. absurd (omega (arith, h)); tests = λ h. absurd (omega (arith, h));
-    no_inputs = λ h. refl; no_outputs = λ h. refl; no_classes = λ h. refl; no_cover = λ h. refl; no_marks = λ h. refl; no_tests = λ h. refl;
+    few_inputs = omega arith;
+    few_outputs = omega arith;
+    few_classes = omega arith;
+    inputs = λ h. absurd (omega (arith, h));
+    outputs = λ h. absurd (omega (arith, h));
+    tests = λ h. absurd (omega (arith, h));
+    no_inputs = λ h. refl;
+    no_outputs = λ h. refl;
+    no_classes = λ h. refl;
+    no_cover = λ h. refl;
+    no_marks = λ h. refl;
+    no_tests = λ h. refl;
     closed = λ n. refl;
     opened = λ h. absurd (omega (arith, ap level h));
   };

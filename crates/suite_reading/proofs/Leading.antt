@@ -1,5 +1,5 @@
 -- Lines that pass, one after another.
-use Rattle.std.proofs.Common.{◌≡◌, List, [], ◌∷◌, ◌++◌, refl, sym, ap, ◌∙◌, subst, Option, None, Some, ◌⊎◌, inl, inr}
+use Rattle.std.proofs.Common.{◌≡◌, List, [], ◌∷◌, ◌++◌, refl, sym, ap, ◌∙◌, subst, Option, None, Some, inl, inr}
 use Rattle.std.proofs.lemmas.Option.{same_Some, none-some}
 use Rattle.strict_lines.specs.Lines.{Token}
 use Rattle.suite_reading.specs.declared.error.Cause.{Cause}
@@ -8,7 +8,7 @@ use Rattle.suite_reading.specs.State.{State, next}
 use Rattle.suite_reading.specs.Checks.{checks, first_of}
 use Rattle.suite_reading.specs.Reading.{Says, RefusesLine, Leads}
 use Rattle.suite_reading.specs.inside.Said.{item_of}
-use Rattle.suite_reading.specs.inside.Answer.{Answers, Takes}
+use Rattle.suite_reading.specs.inside.Answer.{Answers}
 use Rattle.suite_reading.proofs.Saying.{item_is, said_back}
 
 -- an item that the line says, and the state after it

@@ -1,5 +1,5 @@
 -- Tokens say one item at most, and it is the one that they are printed from.
-use Rattle.std.proofs.Common.{◌≡◌, ℕ, ℤ, pos, Bool, true, false, cond, List, [], ◌∷◌, ◌++◌, refl, sym, ap, ◌∙◌, subst, codes, Option, None, Some, ◌⊎◌, inl, inr}
+use Rattle.std.proofs.Common.{◌≡◌, ℕ, ℤ, pos, Bool, true, false, cond, List, [], ◌∷◌, refl, ap, ◌∙◌, codes, Option, None, Some, ◌⊎◌, inl, inr}
 use Rattle.std.specs.Str.{bytes_eq}
 use Rattle.std.specs.Ordering.{int_eq}
 use Rattle.std.proofs.lemmas.Bool.Decides.{Decides-int_eq}
@@ -52,7 +52,7 @@ slash_is w tokens step e = by (values tokens) refl e
         here : (b : Bool) → bytes_eq w (codes "/") ≡ b → cond b (Some ([], reply)) None ≡ Some step → Word w ∷ tokens ≡ step_line step.0 step.1
         here false h k = absurd (none-some step k)
         here true h k = ap (λ x. Word x ∷ tokens) ((bytes_eq-Decides w (codes "/")).0 h) ∙ ap (λ x. Word (codes "/") ∷ x) (values_are tokens reply f)
-          ∙ ap (λ (x : List ℤ × List ℤ). step_line x.0 x.1) (same_Some _ _ k)
+            ∙ ap (λ (x : List ℤ × List ℤ). step_line x.0 x.1) (same_Some _ _ k)
 
 step_values_are : (tokens : List Token) (step : List ℤ × List ℤ) → step_values tokens ≡ Some step → tokens ≡ step_line step.0 step.1
 step_values_are [] step e = absurd (none-some step e)
@@ -131,15 +131,15 @@ module _ (w : List ℕ) (tokens : List Token) (i : Item) where
 
   word_is : word_item w tokens ≡ Some i → Word w ∷ tokens ≡ item_line i
   word_is = go (codes "test") _ _ (list_is (codes "test") TestLine (λ zs. refl) tokens i)
-    (go (codes "class") _ _ (list_is (codes "class") ClassLine (λ zs. refl) tokens i)
-    (go (codes "cover") _ _ (list_is (codes "cover") CoverLine (λ zs. refl) tokens i)
-    (go (codes "mark") _ _ (list_is (codes "mark") MarkLine (λ zs. refl) tokens i)
-    (go (codes "input") _ _ (input_is tokens i)
-    (go (codes "output") _ _ (output_is tokens i)
-    (go (codes "bound") _ _ (number_is (codes "bound") BoundLine (λ z. refl) tokens i)
-    (go (codes "states") _ _ (number_is (codes "states") StatesLine (λ z. refl) tokens i)
-    (go (codes "end") _ _ (number_is (codes "end") EndLine (λ z. refl) tokens i)
-    (go (codes "suite") _ _ (suite_is tokens i) or_step)))))))))
+      (go (codes "class") _ _ (list_is (codes "class") ClassLine (λ zs. refl) tokens i)
+      (go (codes "cover") _ _ (list_is (codes "cover") CoverLine (λ zs. refl) tokens i)
+      (go (codes "mark") _ _ (list_is (codes "mark") MarkLine (λ zs. refl) tokens i)
+      (go (codes "input") _ _ (input_is tokens i)
+      (go (codes "output") _ _ (output_is tokens i)
+      (go (codes "bound") _ _ (number_is (codes "bound") BoundLine (λ z. refl) tokens i)
+      (go (codes "states") _ _ (number_is (codes "states") StatesLine (λ z. refl) tokens i)
+      (go (codes "end") _ _ (number_is (codes "end") EndLine (λ z. refl) tokens i)
+      (go (codes "suite") _ _ (suite_is tokens i) or_step)))))))))
 
 -- the tokens are those of the item that they say
 pub item_is : (line : List Token) (i : Item) → item_of line ≡ Some i → line ≡ item_line i

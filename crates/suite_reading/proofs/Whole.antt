@@ -1,21 +1,19 @@
 -- A text that is read is the suite's text, and is not refused.
-use Rattle.std.proofs.Common.{◌≡◌, ℕ, suc, ◌+◌, ◌<◌, ◌≤◌, Bool, true, false, ℤ, pos, List, [], ◌∷◌, ◌++◌, length, map, codes, refl, sym, ap, ◌∙◌, subst, arith, append_assoc, append-nil, length-append, nat_lt, nat_le, eqb, None, ◌⊎◌, inl, inr, ◌&&◌, unsigned_abs}
-use Rattle.std.specs.List.{flat_map, list_all, AllByRecursion}
+use Rattle.std.proofs.Common.{◌≡◌, ℕ, ◌<◌, ◌≤◌, true, ℤ, List, [], ◌∷◌, ◌++◌, length, map, codes, refl, sym, ap, ◌∙◌, subst, arith, length-append, None, inl, inr, unsigned_abs}
+use Rattle.std.specs.List.{flat_map, list_all}
 use Rattle.std.proofs.lemmas.Bool.{leb-true, le-leb}
 use Rattle.std.proofs.lemmas.List.{same_from_push}
 use Rattle.lin_form.specs.declared.input.Input.{Input}
 use Rattle.strict_lines.specs.Numbers.{is_within, most}
-use Rattle.strict_lines.specs.Lines.{Token, Number, Word, line_tokens, line_text, IsSmall, AreSmall}
+use Rattle.strict_lines.specs.Lines.{Token, line_tokens, line_text, AreSmall}
 use Rattle.strict_lines.proofs.CallerLemmas.{line_printed, lines_closed}
 use Rattle.subject.specs.Suite.{SuiteParts}
 use Rattle.suite_model.specs.Text.{numbers, natural_line, input_line, output_line, class_line, letters_line, step_line, test_lines, suite_lines, suite_text}
 use Rattle.suite_reading.specs.declared.error.Cause.{Cause}
-use Rattle.suite_reading.specs.declared.error.Cause.TheVariants.{Fault}
-use Rattle.suite_reading.specs.declared.place.Place.TheVariants as place
 use Rattle.suite_reading.specs.Items.{Item, SuiteLine, InputLine, OutputLine, BoundLine, StatesLine, ClassLine, CoverLine, MarkLine, TestLine, StepLine, EndLine, item_line}
-use Rattle.suite_reading.specs.State.{State, Row, begun, next, row_of, whole}
+use Rattle.suite_reading.specs.State.{State, begun, next, row_of, whole}
 use Rattle.suite_reading.specs.Checks.{checks, first_of, are_within}
-use Rattle.suite_reading.specs.Reading.{Says, RefusesLine, Leads, pieces_of_text, ReadsSuite, RefusesAtLine, RefusesAtEnd, RefusesText}
+use Rattle.suite_reading.specs.Reading.{Says, Leads, ReadsSuite, RefusesText}
 use Rattle.suite_reading.proofs.Keeping.{fact, both, kept_begun}
 use Rattle.suite_reading.proofs.Leading.{leads_one, not_refused}
 use Rattle.suite_reading.proofs.Printing.{printed, row_line, leads_printed}
@@ -113,7 +111,7 @@ pub not_both : (text : List ℕ) (s : SuiteParts) (n : ℕ) (cause : Cause) → 
 not_both text s n cause h (inl r) =
     let g = shorter h.0 r.front r.line r.rest (sym h.1.0 ∙ r.pieces) r.ended in
     let split = leads_split begun (whole s) (map line_tokens r.front) (line_tokens r.line) (map line_tokens g.rest)
-      (subst (λ ls. Leads begun ls (whole s)) (ap (map line_tokens) g.is ∙ map_line r.front r.line g.rest) h.1.1) in
+    (subst (λ ls. Leads begun ls (whole s)) (ap (map line_tokens) g.is ∙ map_line r.front r.line g.rest) h.1.1) in
     let same : split.middle ≡ r.state = leads_one begun split.middle r.state (map line_tokens r.front) split.leads r.leads in
     not_refused r.state (line_tokens r.line) split.item cause (subst (λ x. Says x (line_tokens r.line) split.item) same split.says) r.refused
 not_both text s n cause h (inr r) =

@@ -1,5 +1,5 @@
 -- The checks of a line, in their order.
-use Rattle.std.specs.Prelude.{ℕ, ◌+◌, ℤ, int_le, pos, Bool, true, false, not, ◌&&◌, ◌||◌, ◌==◌, nat_eq, nat_lt, nat_le, if◌then◌else◌, List, [], ◌∷◌, ◌++◌, length, map, take, slice_index, slice_index_or, Option, None, Some}
+use Rattle.std.specs.Prelude.{ℕ, ◌+◌, ℤ, int_le, pos, Bool, true, false, not, ◌&&◌, ◌||◌, ◌==◌, nat_eq, nat_lt, nat_le, if◌then◌else◌, List, [], ◌∷◌, length, take, slice_index, slice_index_or, Option, None, Some}
 use Rattle.std.specs.List.{list_all, list_any}
 use Rattle.std.specs.Str.{bytes_eq}
 use Rattle.std.specs.Cmp.Lexicographic.{pointwise}
@@ -138,7 +138,7 @@ checks s (TestLine zs) =
     ∷ unless (are_letters s zs) (Fault fault.Fact) ∷ []
 checks s (StepLine vector reply) =
     unless ((may_stand kind.Step s.place && length vector == length s.inputs) && length reply == length s.outputs)
-      (Fault fault.Form)
+    (Fault fault.Form)
     ∷ unless (are_within most vector) (Limit limit.Literal)
     ∷ unless (are_within most reply) (Limit limit.Literal)
     ∷ unless (pointwise int_eq vector (witness s)) (Fault fault.Vector)

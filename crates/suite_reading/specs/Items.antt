@@ -1,5 +1,5 @@
 -- What a line of a suite's text may say, and how it is printed.
-use Rattle.std.specs.Prelude.{ℕ, ℤ, pos, List, [], ◌∷◌, codes}
+use Rattle.std.specs.Prelude.{ℕ, ℤ, List, [], ◌∷◌, codes}
 use Rattle.strict_lines.specs.Lines.{Token, Number, Word}
 use Rattle.suite_model.specs.Text.{numbers, natural_line, output_line, class_line, step_line}
 

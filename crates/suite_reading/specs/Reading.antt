@@ -1,5 +1,5 @@
 -- A suite's text, line by line.
-use Rattle.std.specs.Prelude.{◌≡◌, ℕ, ◌+◌, ◌<◌, ◌⊎◌, List, [], ◌∷◌, ◌++◌, length, map, None, Some, Option}
+use Rattle.std.specs.Prelude.{◌≡◌, ℕ, ◌+◌, ◌<◌, ◌⊎◌, List, [], ◌∷◌, ◌++◌, length, map, None, Some}
 use Rattle.strict_lines.specs.Lines.{Token, line_tokens, pieces_between}
 use Rattle.subject.specs.Suite.{SuiteParts}
 use Rattle.suite_reading.specs.declared.error.SuiteKind.TheVariants as fault

@@ -1,5 +1,5 @@
 -- What the lines before say.
-use Rattle.std.specs.Prelude.{◌≡◌, ℕ, ◌-◌, ℤ, pos, negsuc, unsigned_abs, List, [], ◌∷◌, ◌++◌, length, map, if◌then◌else◌, nat_lt}
+use Rattle.std.specs.Prelude.{◌≡◌, ℕ, ◌-◌, ℤ, pos, negsuc, List, [], ◌∷◌, ◌++◌, length, map, if◌then◌else◌, nat_lt}
 use Rattle.std.specs.List.{All}
 use Rattle.lin_form.specs.declared.input.Input.{Input}
 use Rattle.suite_words.specs.Cover.{AreLetters}

@@ -1,5 +1,5 @@
 -- What is answered to a line.
-use Rattle.std.specs.Prelude.{◌≡◌, List, Option, None, Some}
+use Rattle.std.specs.Prelude.{◌≡◌, Option, None, Some}
 use Rattle.suite_reading.specs.declared.error.SuiteKind.TheVariants as fault
 use Rattle.suite_reading.specs.declared.error.Cause.{Cause}
 use Rattle.suite_reading.specs.declared.error.Cause.TheVariants.{Fault}

@@ -1,8 +1,7 @@
 -- What holds of every state that lines lead to.
-use Rattle.std.specs.Prelude.{◌≡◌, ℕ, ◌<◌, ◌≤◌, true, List, [], length}
+use Rattle.std.specs.Prelude.{◌≡◌, ℕ, ◌<◌, ◌≤◌, true, [], length}
 use Rattle.std.specs.List.{All}
 use Rattle.suite_words.specs.Cover.{AreLetters}
-use Rattle.subject.specs.Suite.{Test}
 use Rattle.suite_reading.specs.declared.place.Place.{Place}
 use Rattle.suite_reading.specs.declared.place.Place.TheVariants as place
 use Rattle.suite_reading.specs.State.{State, no_test, AreRuled}
