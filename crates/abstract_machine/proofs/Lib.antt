@@ -1,0 +1,6 @@
+pub mod Keys
+pub mod Reaching
+pub mod Searching
+pub mod Making
+pub mod Abstracting
+pub mod Lifted

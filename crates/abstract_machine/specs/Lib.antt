@@ -1,0 +1,4 @@
+pub mod Reached
+pub mod Explored
+pub mod Abstraction
+pub mod inside

@@ -1,0 +1,12 @@
+//! The finite machine of a plan: its letters are the classes of a partition, and it does what the plan does on their
+//! witnesses.
+#![tactic(auto)]
+
+mod error;
+mod exploring;
+mod laws;
+mod numbering;
+
+pub use error::ExploreError;
+pub use exploring::{Explored, explore};
+pub use laws::{reduced_machine_has_the_rank, reduced_machine_has_the_words, witnesses_reach_all};
