@@ -1,0 +1,7 @@
+//! The suite of a plan: the words of the W-method over the witnesses of classes, with the plan's replies.
+#![tactic(auto)]
+
+mod answering;
+mod copying;
+
+pub use answering::suite_of_words;
