@@ -30,7 +30,8 @@ pub record IsSearched (m : Machine) (found : List Found) : Type 0 where
   pub once : (j k : ℕ) → j < k → k < length found → state_at found j ≢ state_at found k
   pub earlier : (k : ℕ) → 0 < k → k < length found → (found_at found k).from < k
   pub letter : (k : ℕ) → 0 < k → k < length found → (found_at found k).letter < m.letters
-  pub leads : (k : ℕ) → 0 < k → k < length found → state_at found k ≡ next m (state_at found (found_at found k).from) (found_at found k).letter
+  pub leads : (k : ℕ) → 0 < k → k < length found →
+      state_at found k ≡ next m (state_at found (found_at found k).from) (found_at found k).letter
   pub each : (i a : ℕ) → i < length found → a < m.letters → (k : ℕ) × IsFoundFrom m found i a k
   pub ordered : (j k : ℕ) → 0 < j → j < k → k < length found →
       IsTriedBefore (found_at found j).from (found_at found j).letter (found_at found k).from (found_at found k).letter

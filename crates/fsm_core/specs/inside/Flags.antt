@@ -31,7 +31,8 @@ pub record IsSearch (m : Machine) (flags : List Bool) (found : List Found) (at a
   pub once : (j k : ℕ) → j < k → k < length found → state_at found j ≢ state_at found k
   pub earlier : (k : ℕ) → 0 < k → k < length found → (found_at found k).from < k
   pub letter : (k : ℕ) → 0 < k → k < length found → (found_at found k).letter < m.letters
-  pub leads : (k : ℕ) → 0 < k → k < length found → state_at found k ≡ next m (state_at found (found_at found k).from) (found_at found k).letter
+  pub leads : (k : ℕ) → 0 < k → k < length found →
+      state_at found k ≡ next m (state_at found (found_at found k).from) (found_at found k).letter
   pub each : (i b : ℕ) → i < length found → b < m.letters → IsTriedBefore i b at a → (k : ℕ) × IsFoundFrom m found i b k
   pub latest : (k : ℕ) → 0 < k → k < length found → IsTriedBefore (found_at found k).from (found_at found k).letter at a
   pub ordered : (j k : ℕ) → 0 < j → j < k → k < length found →

@@ -9,7 +9,8 @@ use Rattle.word_pool.specs.Words.{word, words_at, AddsPrefixesOf, AreIds, Keeps}
 pub record AreWordsOf (found : List Found) (words : List (List ℕ)) (n : ℕ) : Type 0 where
   pub size : length words ≡ n
   pub root : word words 0 ≡ []
-  pub longer : (k : ℕ) → 0 < k → k < n → word words k ≡ word words (found_at found k).from ++ (found_at found k).letter ∷ []
+  pub longer : (k : ℕ) → 0 < k → k < n →
+      word words k ≡ word words (found_at found k).from ++ (found_at found k).letter ∷ []
 
 -- these words are in the pool, and no others were added
 pub record AreNamed (old : List (List ℕ)) (found : List Found) (new : List (List ℕ)) (ids : List ℕ) (n : ℕ) : Type 0 where
