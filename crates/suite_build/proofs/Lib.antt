@@ -1,0 +1,4 @@
+pub mod Counting
+pub mod Entered
+pub mod Exact
+pub mod CallerLemmas
