@@ -1,4 +1,3 @@
-pub mod Reporting
+pub mod Arms
+pub mod One
 pub mod Printing
-pub mod Answering
-pub mod Serving

@@ -1,30 +1,42 @@
 -- The words that are a command.
-use Rattle.std.specs.Prelude.{ℕ, Bool, true, false, not, ◌&&◌, if◌then◌else◌, List, [], ◌∷◌, codes, Option, None, Some, slice_get, unwrap_or}
+use Rattle.std.specs.Prelude.{◌≡◌, ℕ, ◌-◌, Bool, true, false, ◌&&◌, nat_lt, if◌then◌else◌, List, [], ◌∷◌, length, codes, Option, None, Some}
 use Rattle.std.specs.Str.{bytes_eq}
 use Rattle.classtest.specs.declared.command.Command.{Command}
 use Rattle.classtest.specs.declared.command.Command.TheVariants.{Play}
+use Rattle.classtest.specs.declared.command.Place.{Place}
+use Rattle.classtest.specs.declared.command.Place.TheVariants.{Text}
 
--- a word may name a text: it is not empty
-abbrev pub is_name_word : List ℕ → Bool
-is_name_word [] = false
-is_name_word (byte ∷ bytes) = true
+-- a word may stand in a place: the name of a text is not empty
+abbrev pub takes : Place → List ℕ → Bool
+takes Text word = nat_lt 0 (length word)
 
 -- the word names standard input
-abbrev pub is_input_word : List ℕ → Bool
-is_input_word word = bytes_eq word (codes "-")
+abbrev pub is_input : Place → List ℕ → Bool
+is_input Text word = bytes_eq word (codes "-")
 
--- two words name texts, and not both standard input
-abbrev pub are_names : List ℕ → List ℕ → Bool
-are_names first second = is_name_word first && is_name_word second && not (is_input_word first && is_input_word second)
+-- the words stand in these places, and at most so many of them name standard input
+abbrev pub fits_places : ℕ → List Place → List (List ℕ) → Bool
+fits_places left [] [] = true
+fits_places left [] (word ∷ words) = false
+fits_places left (place ∷ places) [] = false
+fits_places left (place ∷ places) (word ∷ words) =
+    if is_input place word then nat_lt 0 left && fits_places (left - 1) places words
+    else takes place word && fits_places left places words
+
+-- what the words after `play` stand for
+abbrev pub play_places : List Place
+play_places = Text ∷ Text ∷ []
+
+abbrev pub when : Bool → Command → Option Command
+when true command = Some command
+when false command = None
 
 -- play CHART WORD
 abbrev pub command_of : List (List ℕ) → Option Command
 command_of [] = None
-command_of (verb ∷ []) = None
-command_of (verb ∷ chart ∷ []) = None
-command_of (verb ∷ chart ∷ word ∷ []) = if bytes_eq verb (codes "play") && are_names chart word then Some Play else None
-command_of (verb ∷ chart ∷ word ∷ other ∷ more) = None
+command_of (verb ∷ words) =
+    if bytes_eq verb (codes "play") then when (fits_places 1 play_places words) Play else None
 
--- the word with this number, counted from 0
-abbrev pub word_at : List (List ℕ) → ℕ → List ℕ
-word_at words number = unwrap_or (slice_get words number) []
+-- the words are a command
+abbrev pub IsCommand : List (List ℕ) → Type 0
+IsCommand words = (command : Command) × (command_of words ≡ Some command)

@@ -4,7 +4,7 @@ use Rattle.std.specs.List.{flat_map}
 use Rattle.subject.specs.Meaning.{answer}
 use Rattle.chart_model.specs.declared.chart.Chart.{Chart}
 use Rattle.chart_meaning.specs.Plan.{plan_of_chart}
-use Rattle.classtest.specs.Numbers.{line_of}
+use Rattle.command_stages.specs.Numbers.{line_of}
 
 -- one line for each reply of the chart's answer to the word
 abbrev pub play_text : Chart → List (List ℤ) → List ℕ

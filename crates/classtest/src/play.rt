@@ -1,27 +1,60 @@
-ghost use Rattle.std.specs.Prelude.{◌≡◌, ◌≤◌, All, OnOk, OnErr};
+ghost use Rattle.std.specs.Prelude.{◌≡◌, All, map, string_bytes};
 ghost use Rattle.lin_form.specs.Signature.{IsInInputRanges};
-ghost use Rattle.first_world.specs.Count.{Rose};
-ghost use Rattle.first_world.specs.Sink.{Grows, GrowsByPrefix};
+ghost use Rattle.test_world.specs.Sink.{Puts};
+ghost use Rattle.command_stages.specs.Stage.{Made};
+ghost use Rattle.classtest.specs.Ends.{PlayEnds};
 ghost use Rattle.classtest.specs.Play.{play_text};
 
-use crate::line::Line;
 use chart_meaning::ChartPlan;
+use command_stages::{Line, Print, Stop, Word, chart_at, word_over};
 use lin_form::Vector;
-use first_world::{Fault, Sink, put_all};
+use std::alloc::Global;
+use std::marker::Model;
+use test_world::{Fault, Shelf, Sink, put_all};
 
-/// Puts the plan's replies to the word, one line for each step. It takes no memory.
-pub fn print_replies<K: Sink>(plan: &ChartPlan, word: &[Vector], out: &mut K) -> Result<(), Fault>
+/// What `play` prints: the chart's replies to the word.
+#[derive(Drop)]
+pub struct Replies {
+    plan: ChartPlan,
+    word: Word,
+}
+
+impl Model for Replies {
+    ghost use Rattle.std.specs.Prelude.{true, All};
+    ghost use Rattle.lin_form.specs.Signature.{IsInInputRanges};
+    ghost use Rattle.command_stages.specs.Stage.{Printed};
+    ghost use Rattle.classtest.specs.Play.{play_text};
+
+    ghost Value = { Printed };
+
+    ghost view = { λ r. record { passes = true; text = play_text r.plan r.word } };
+
+    ghost invariant = { λ r. All (λ vector. IsInInputRanges r.plan.signature.inputs vector) r.word };
+}
+
+impl Print for Replies {
+    ghost printed = { λ replies. replies };
+
+    fn passes(&self) -> bool {
+        let _plan = &self.plan;
+        true
+    }
+
+    fn put<K: Sink>(&mut self, out: &mut K) -> Result<(), Fault> {
+        print_replies(&self.plan, self.word.as_slice(), out)
+    }
+}
+
+// Puts the plan's replies to the word, one line for each step. It takes no memory.
+fn print_replies<K: Sink>(plan: &ChartPlan, word: &[Vector], out: &mut K) -> Result<(), Fault>
     requires { All (λ vector. IsInInputRanges plan.now.signature.inputs vector) word.now }
-    ensures ok { OnOk result (Grows (K.taken out.old) (K.taken out.new) (play_text plan.now word.now)) }
-    ensures prefix { OnErr result (GrowsByPrefix (K.taken out.old) (K.taken out.new) (play_text plan.now word.now)) }
-    ensures later { K.faults out.old ≤ K.faults out.new }
-    ensures fault { OnErr result (Rose (K.faults out.old) (K.faults out.new)) }
+    ensures { Puts (K.state out.old) (K.state out.new) (play_text plan.now word.now) result }
 {
     let mut line = Line::new();
     let mut config = plan.start();
     'word: for vector in word {
         let step = plan.step(&config, vector);
-        line.set_reply(&step.reply);
+        line.set_numbers(step.reply.as_slice());
         match put_all(out, line.bytes()) {
             Ok(()) => {}
             Err(fault) => return Err(fault),
@@ -29,4 +62,16 @@ pub fn print_replies<K: Sink>(plan: &ChartPlan, word: &[Vector], out: &mut K) ->
         config = step.state;
     }
     Ok(())
+}
+
+/// `play CHART WORD`.
+pub fn play<F: Shelf>(alloc: Global, words: &[String], shelf: &mut F) -> Result<Replies, Stop>
+    ensures { Made PlayEnds (map string_bytes words.now) (F.state shelf.old) (F.state shelf.new) result }
+{
+    let chart = chart_at(alloc, words, 1, shelf)?;
+    let word = word_over(alloc, words, 2, &chart, shelf)?;
+    match ChartPlan::new(alloc, chart) {
+        Ok(plan) => Ok(Replies { plan, word }),
+        Err(_) => Err(Stop::NoMemory),
+    }
 }

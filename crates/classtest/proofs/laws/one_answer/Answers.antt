@@ -1,5 +1,8 @@
-use Rattle.classtest.proofs.Answering.{is_answered}
+use Rattle.classtest.proofs.One.{one, only}
 use Rattle.classtest.proofs.laws.one_answer.Goals as goal
 
-pub returns : goal.returns
-returns c = λ words showing. is_answered c.chart_or_refusal.ensures c.word_or_refusal.ensures words showing
+pub returns-clause-one : goal.returns-clause-one
+returns-clause-one c = one c.chart_or_refusal.ensures c.word_or_refusal.ensures
+
+pub returns-clause-named : goal.returns-clause-named
+returns-clause-named c = only c.chart_or_refusal.ensures c.word_or_refusal.ensures

@@ -1,0 +1,5 @@
+pub mod Stages
+pub mod Proper
+pub mod Serving
+pub mod Readers
+pub mod Finishing

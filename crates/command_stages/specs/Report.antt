@@ -1,0 +1,130 @@
+-- The statuses of stops and their lines on `err`.
+use Rattle.std.specs.Prelude.{ℕ, Bool, true, false, List, [], ◌∷◌, ◌++◌, map, codes, Option, Some, None, slice_get, unwrap_or, Result, Ok, Err}
+use Rattle.std.specs.Fmt.{decimal}
+use Rattle.chart_syntax.specs.declared.error.Kind.{Kind}
+use Rattle.chart_syntax.specs.declared.error.Kind.TheVariants as kind
+use Rattle.chart_syntax.specs.declared.error.Which.{Which}
+use Rattle.chart_syntax.specs.declared.error.Which.TheVariants as which
+use Rattle.command_stages.specs.declared.stop.Refusal.{Refusal}
+use Rattle.command_stages.specs.declared.stop.Refusal.TheVariants.{Fault, Limit, TooLong}
+use Rattle.command_stages.specs.declared.stop.Source.{Source}
+use Rattle.command_stages.specs.declared.stop.Source.TheVariants.{Word, Replies}
+use Rattle.command_stages.specs.declared.stop.Stop.{Stop}
+use Rattle.command_stages.specs.declared.stop.Stop.TheVariants.{NoCommand, Refused, Unread, WriteFault, NoMemory}
+
+-- the word with this number, counted from 0
+abbrev pub word_at : List (List ℕ) → ℕ → List ℕ
+word_at words number = unwrap_or (slice_get words number) []
+
+-- the name of what is read from
+abbrev pub name_of : List (List ℕ) → Source → List ℕ
+name_of words (Word number) = word_at words number
+name_of words Replies = codes "-"
+
+-- the status of a refusal
+abbrev pub status_of_refusal : Refusal → ℕ
+status_of_refusal (Fault name line k) = 3
+status_of_refusal (Limit name line w) = 4
+status_of_refusal (TooLong name) = 4
+
+-- the status of a call that stops so
+abbrev pub status_of_stop : Stop → ℕ
+status_of_stop NoCommand = 2
+status_of_stop (Refused refusal) = status_of_refusal refusal
+status_of_stop (Unread source) = 5
+status_of_stop WriteFault = 5
+status_of_stop NoMemory = 6
+
+-- the status of a call that ends so
+abbrev pub status_of : Result Bool Stop → ℕ
+status_of (Ok true) = 0
+status_of (Ok false) = 1
+status_of (Err stop) = status_of_stop stop
+
+-- what the line on `err` names
+abbrev pub source_of : Stop → Option Source
+source_of (Unread source) = Some source
+source_of (Refused (Fault name line k)) = Some (Word name)
+source_of (Refused (Limit name line w)) = Some (Word name)
+source_of (Refused (TooLong name)) = Some (Word name)
+source_of other = None
+
+-- the line of the text that it names
+abbrev pub line_of_stop : Stop → Option ℕ
+line_of_stop (Refused (Fault name line k)) = Some line
+line_of_stop (Refused (Limit name line w)) = Some line
+line_of_stop other = None
+
+-- the word for a kind of fault
+abbrev pub kind_word : Kind → List ℕ
+kind_word kind.Byte = codes "byte"
+kind_word kind.Version = codes "version"
+kind_word kind.NoSuchLine = codes "line"
+kind_word kind.Misplaced = codes "order"
+kind_word kind.Form = codes "form"
+kind_word kind.Double = codes "double"
+kind_word kind.Unknown = codes "unknown"
+kind_word kind.Misuse = codes "misuse"
+kind_word kind.Range = codes "range"
+kind_word kind.Start = codes "start"
+kind_word kind.Twice = codes "twice"
+kind_word kind.OutOfBox = codes "box"
+kind_word kind.Missing = codes "missing"
+
+-- the word for a limit of a text
+abbrev pub limit_word : Which → List ℕ
+limit_word which.Literal = codes "literal"
+limit_word which.NameBytes = codes "name"
+limit_word which.Tokens = codes "tokens"
+limit_word which.Nesting = codes "nesting"
+limit_word which.Comparisons = codes "comparisons"
+limit_word which.Inputs = codes "inputs"
+limit_word which.Assumptions = codes "assumptions"
+limit_word which.Outputs = codes "outputs"
+limit_word which.Memories = codes "memories"
+limit_word which.Product = codes "product"
+limit_word which.Bound = codes "bound"
+limit_word which.States = codes "states"
+limit_word which.Depth = codes "depth"
+limit_word which.Transitions = codes "transitions"
+limit_word which.Rows = codes "rows"
+
+-- what stands before the word
+abbrev pub before_of : Stop → List ℕ
+before_of (Refused (Limit name line w)) = codes ": limit "
+before_of (Refused (TooLong name)) = codes ": limit "
+before_of (Refused (Fault name line k)) = codes ": "
+before_of (Unread source) = codes ": "
+before_of other = []
+
+-- the word for why
+abbrev pub word_of : Stop → List ℕ
+word_of NoCommand = codes "no such command"
+word_of (Refused (Fault name line k)) = kind_word k
+word_of (Refused (Limit name line w)) = limit_word w
+word_of (Refused (TooLong name)) = codes "bytes"
+word_of (Unread source) = codes "read fault"
+word_of WriteFault = codes "write fault"
+word_of NoMemory = codes "no memory"
+
+-- the name that stands on the line, none where it names nothing
+abbrev pub named : List (List ℕ) → Option Source → List ℕ
+named words None = []
+named words (Some source) = name_of words source
+
+-- the place in the text that is named
+abbrev pub at_line : Option ℕ → List ℕ
+at_line None = []
+at_line (Some line) = codes ":" ++ decimal line
+
+-- what is said after the name
+abbrev pub said : Stop → List ℕ
+said stop = at_line (line_of_stop stop) ++ before_of stop ++ word_of stop ++ codes "\n"
+
+-- the line on `err`, for the words of the call
+abbrev pub err_line : List (List ℕ) → Stop → List ℕ
+err_line words stop = codes "classtest: " ++ (named words (source_of stop) ++ said stop)
+
+-- the names of these sources
+abbrev pub names_of : List (List ℕ) → List Source → List (List ℕ)
+names_of words sources = map (name_of words) sources

@@ -1,0 +1,174 @@
+ghost use Rattle.std.specs.Prelude.{◌≡◌, ◌≤◌, length};
+ghost use Rattle.command_stages.specs.Report.{status_of_refusal, status_of_stop, source_of, line_of_stop, before_of, word_of, kind_word, limit_word};
+
+use chart_syntax::{Kind, Which};
+
+/// Why the answer to a command is no text. `name` is the number of the word that names the text that is refused, counted
+/// from 0; lines count from 1.
+#[derive(Clone, Copy, PartialEq, Eq, Debug)]
+pub enum Refusal {
+    /// A text has a fault.
+    Fault {
+        name: usize,
+        line: usize,
+        kind: Kind,
+    },
+    /// A text passes a limit.
+    Limit {
+        name: usize,
+        line: usize,
+        which: Which,
+    },
+    /// A text is too long.
+    TooLong {
+        name: usize,
+    },
+}
+
+/// What is read from.
+#[derive(Clone, Copy, PartialEq, Eq, Debug)]
+pub enum Source {
+    /// The text that the word with this number names.
+    Word(usize),
+    /// The replies that come in.
+    Replies,
+}
+
+/// Why a command comes to no text: the words are none, the answer is a refusal, or the call departs from its answer.
+#[derive(Clone, Copy, PartialEq, Eq, Debug)]
+pub enum Stop {
+    /// The words are no command.
+    NoCommand,
+    /// The answer is a refusal.
+    Refused(Refusal),
+    /// A read failed.
+    Unread(Source),
+    /// A write failed.
+    WriteFault,
+    /// There was no memory.
+    NoMemory,
+}
+
+impl Refusal {
+    /// The status of the program.
+    pub fn status(self) -> u8
+        ensures { result ≡ status_of_refusal self }
+    {
+        match self {
+            Refusal::Fault { .. } => 3,
+            Refusal::Limit { .. } | Refusal::TooLong { .. } => 4,
+        }
+    }
+}
+
+impl Stop {
+    /// The status of the program.
+    pub fn status(self) -> u8
+        ensures { result ≡ status_of_stop self }
+    {
+        match self {
+            Stop::NoCommand => 2,
+            Stop::Refused(refusal) => refusal.status(),
+            Stop::Unread(_) | Stop::WriteFault => 5,
+            Stop::NoMemory => 6,
+        }
+    }
+
+    /// What the line on `err` names.
+    pub fn source(self) -> Option<Source>
+        ensures { result ≡ source_of self }
+    {
+        match self {
+            Stop::Unread(source) => Some(source),
+            Stop::Refused(Refusal::Fault { name, .. }) => Some(Source::Word(name)),
+            Stop::Refused(Refusal::Limit { name, .. }) => Some(Source::Word(name)),
+            Stop::Refused(Refusal::TooLong { name }) => Some(Source::Word(name)),
+            _ => None,
+        }
+    }
+
+    /// The line of the text that the line on `err` names.
+    pub fn line(self) -> Option<usize>
+        ensures { result ≡ line_of_stop self }
+    {
+        match self {
+            Stop::Refused(Refusal::Fault { line, .. }) => Some(line),
+            Stop::Refused(Refusal::Limit { line, .. }) => Some(line),
+            _ => None,
+        }
+    }
+
+    /// What stands before the word for why.
+    pub fn before(self) -> &'static [u8]
+        ensures text { result.now ≡ before_of self }
+        ensures short { length result.now ≤ 20 }
+    {
+        match self {
+            Stop::Refused(Refusal::Limit { .. } | Refusal::TooLong { .. }) => b": limit ",
+            Stop::Refused(Refusal::Fault { .. }) | Stop::Unread(_) => b": ",
+            _ => b"",
+        }
+    }
+
+    /// The word for why.
+    pub fn word(self) -> &'static [u8]
+        ensures text { result.now ≡ word_of self }
+        ensures short { length result.now ≤ 20 }
+    {
+        match self {
+            Stop::NoCommand => b"no such command",
+            Stop::Refused(Refusal::Fault { kind, .. }) => kind_word(kind),
+            Stop::Refused(Refusal::Limit { which, .. }) => limit_word(which),
+            Stop::Refused(Refusal::TooLong { .. }) => b"bytes",
+            Stop::Unread(_) => b"read fault",
+            Stop::WriteFault => b"write fault",
+            Stop::NoMemory => b"no memory",
+        }
+    }
+}
+
+/// The word for a kind of fault.
+pub fn kind_word(kind: Kind) -> &'static [u8]
+    ensures word { result.now ≡ kind_word kind }
+    ensures short { length result.now ≤ 20 }
+{
+    match kind {
+        Kind::Byte => b"byte",
+        Kind::Version => b"version",
+        Kind::NoSuchLine => b"line",
+        Kind::Misplaced => b"order",
+        Kind::Form => b"form",
+        Kind::Double => b"double",
+        Kind::Unknown => b"unknown",
+        Kind::Misuse => b"misuse",
+        Kind::Range => b"range",
+        Kind::Start => b"start",
+        Kind::Twice => b"twice",
+        Kind::OutOfBox => b"box",
+        Kind::Missing => b"missing",
+    }
+}
+
+/// The word for a limit.
+pub fn limit_word(which: Which) -> &'static [u8]
+    ensures word { result.now ≡ limit_word which }
+    ensures short { length result.now ≤ 20 }
+{
+    match which {
+        Which::Literal => b"literal",
+        Which::NameBytes => b"name",
+        Which::Tokens => b"tokens",
+        Which::Nesting => b"nesting",
+        Which::Comparisons => b"comparisons",
+        Which::Inputs => b"inputs",
+        Which::Assumptions => b"assumptions",
+        Which::Outputs => b"outputs",
+        Which::Memories => b"memories",
+        Which::Product => b"product",
+        Which::Bound => b"bound",
+        Which::States => b"states",
+        Which::Depth => b"depth",
+        Which::Transitions => b"transitions",
+        Which::Rows => b"rows",
+    }
+}
