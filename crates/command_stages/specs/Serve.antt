@@ -108,7 +108,7 @@ abbrev pub IsReported : Call → Result Bool Stop → Type 0
 IsReported call (Ok passes) = call.err_after ≡ call.err
 IsReported call (Err stop) = Grows call.err call.err_after (err_line call.run.words stop)
     ⊎ (GrowsByPrefix call.err call.err_after (err_line call.run.words stop)
-        × Rose call.err.faults call.err_after.faults)
+    × Rose call.err.faults call.err_after.faults)
 
 -- the answer is carried out: its status, what is put to `out`, and the line on `err`
 pub record IsCarriedOut (call : Call) (one : Answer) : Type 0 where

@@ -28,7 +28,7 @@ Then {A} first next given sources (Ok b) = (a : A) × (front rest : List Source)
     × first given front (Ok a) × next a given rest (Ok b)
 Then {A} first next given sources (Err stop) = first given sources (Err stop)
     ⊎ ((a : A) × (front rest : List Source) × (sources ≡ front ++ rest)
-        × first given front (Ok a) × next a given rest (Err stop))
+    × first given front (Ok a) × next a given rest (Err stop))
 
 -- a value of which this holds
 unfoldable pub Is : {A : Type 0} → (A → Type 0) → Stage A
