@@ -1,5 +1,6 @@
 //! Reads and writes that fail.
 ghost use Rattle.std.specs.Prelude.{◌<◌};
+ghost use Rattle.test_world.specs.Count.{greatest_count};
 
 use super::*;
 use test_world::{Fault, Sink};
