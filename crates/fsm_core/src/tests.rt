@@ -1,3 +1,5 @@
+ghost use Rattle.std.specs.Prelude.{◌≡◌};
+
 use super::*;
 use std::process::Abort;
 use std::test::Fail;
@@ -19,10 +21,10 @@ const ROWS: [(usize, usize); 9] = [
 ];
 
 // Compares a machine with the rows of the lift.
-fn check_rows(rt: &impl Abort, lift: &Fsm) {
-    assert_eq!(rt; lift.states(), 3);
-    assert_eq!(rt; lift.letters(), 3);
-    assert_eq!(rt; lift.replies(), 4);
+fn check_rows(rt: &impl Abort, lift: &Fsm)
+    requires states { lift.now.states ≡ 3 }
+    requires letters { lift.now.letters ≡ 3 }
+{
     for state in 0..3 {
         for letter in 0..3 {
             let want = ROWS[state * 3 + letter as usize];
@@ -40,13 +42,11 @@ fn a_lift(rt: HostRuntime) -> Result<(), Fail> {
     }
     assert!(rt; Fsm::is_machine(LETTERS, &ROWS, replies.as_slice()));
     let rows = Vec::from_slice(rt.alloc(), &ROWS)?;
-    let lift = Fsm::new(LETTERS, rows, replies.clone()?);
+    let lift = Fsm::new(LETTERS, rows, replies);
+    assert_eq!(rt; lift.states(), 3);
+    assert_eq!(rt; lift.letters(), 3);
+    assert_eq!(rt; lift.replies(), 4);
     check_rows(&rt, &lift);
-    let mut rows = Rows::with_capacity(rt.alloc(), 0)?;
-    for (next, number) in ROWS {
-        rows.push(next, number)?;
-    }
-    check_rows(&rt, &Fsm::from_rows(LETTERS, rows, replies));
     let words = [
         (0, [].as_slice(), 0),
         (2, &[], 2),
