@@ -1,0 +1,3 @@
+-- What functions of this crate promise one another.
+pub mod Refusals
+pub mod Words
