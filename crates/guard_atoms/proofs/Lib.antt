@@ -1,1 +1,3 @@
 pub mod Agreeing
+pub mod Sizes
+pub mod Saying

@@ -1,1 +1,3 @@
 pub mod Atoms
+pub mod Answers
+pub mod inside
