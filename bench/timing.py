@@ -11,7 +11,7 @@ OURS = pathlib.Path(__file__).resolve().parent.parent
 def lines_of(uses: str) -> dict[str, str]:
     """What each of these crates and of those below them stands on, lowest first, as crates.txt of the repository says."""
     lines = (OURS / "crates.txt").read_text().splitlines()
-    stands = dict(line.split(":", 1) for line in lines if not line.startswith("#"))
+    stands = dict(line.split(":", 1) for line in lines if ":" in line and not line.startswith("#"))
     wanted = set(uses.split())
     for name in reversed(stands):
         if name in wanted:
