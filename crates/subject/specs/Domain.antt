@@ -33,7 +33,8 @@ ActByClasses s r m i = (x : List ℤ) → IsIn s x → ∥ HasLikeClass s r m i 
 abbrev pub box : {S : Type 0} → Meaning S → Partition → VectorSet
 box m r = box_of m.signature r.assumed
 
--- the other plan lies inside the fault domain of the model with the partition and the bound
+-- the other plan lies inside the fault domain of the model with the partition and the bound; the partition is meant to be
+-- one (`IsPartition`): a class without members would act like every vector
 pub record Inside {S T : Type 0} (model : Meaning S) (partition : Partition) (bound : ℕ)
     (other : Meaning T) : Type 0 where
   pub fits : IsFitting model.signature other.signature

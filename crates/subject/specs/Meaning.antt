@@ -4,7 +4,8 @@ use Rattle.lin_form.specs.declared.signature.Signature.{Signature}
 use Rattle.lin_form.specs.Signature.{IsInInputRanges}
 use Rattle.input_classes.specs.VectorSet.{VectorSet, Word, IsWordOf, box_of}
 
--- a signature, a start, and for each state and vector of the signature's ranges a next state and a reply
+-- a signature, a start, and for each state and vector of the signature's ranges a next state and a reply; what stands for
+-- other vectors means nothing
 pub record Meaning (S : Type 0) : Type 0 where
   pub signature : Signature
   pub start : S

@@ -13,7 +13,7 @@ abbrev pub AgreeOn : {S : Type 0} → Meaning S → List Word → Word → Word 
 AgreeOn m marks p q = All (λ w. after m p w ≡ after m q w) marks
 
 -- a state cover and a characterisation set of a plan: the words of the cover, among them the empty word, do not agree
--- on the marks, of which there is one, and no word leads differently from all of them
+-- on the marks, of which there is at least one, and no word leads differently from all of them
 pub record AreCoverAndMarks {S : Type 0} (s : VectorSet) (m : Meaning S) (cover marks : List Word) : Type 0 where
   pub begins : Contains cover []
   pub cover_words : All (IsWordOf s) cover

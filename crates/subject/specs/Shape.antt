@@ -23,7 +23,9 @@ answer_after model partition cover i w =
     after model (in_vectors (witnesses partition) (word cover i)) (in_vectors (witnesses partition) w)
 
 -- all of the suite but which tests it has: the model's signature, the bound, the witnesses, the rank, the cover, the
--- marks, and the model's reply to each test
+-- marks, and the model's reply to each test. The partition is meant to be one (`IsPartition`). The marks tell as many
+-- cover words apart as there are states; where members of a class do not act alike in the model there may be fewer cover
+-- words, and then no suite has the shape
 pub record IsSuiteFor {S : Type 0} (model : Meaning S) (partition : Partition) (bound : ℕ)
     (suite : SuiteParts) : Type 0 where
   pub signature : suite.signature ≡ model.signature

@@ -1,21 +1,16 @@
 -- Tests, and what it means that they are passed: over the answers alone, a function from words to replies.
-use Rattle.std.specs.Prelude.{◌≡◌, ◌≢◌, ℕ, ◌+◌, ◌-◌, ℤ, List, [], ◌∷◌, ◌++◌, length, take, Some, slice_get, slice_index_or}
+use Rattle.std.specs.Prelude.{◌≡◌, ◌≢◌, ℕ, ◌+◌, ◌-◌, ℤ, List, [], ◌∷◌, ◌++◌, take, Some, slice_get, slice_index_or}
 use Rattle.std.specs.List.{All}
-use Rattle.input_classes.specs.VectorSet.{VectorSet, Word, IsWordOf}
+use Rattle.input_classes.specs.VectorSet.{Word}
 
 -- the replies to each word
 abbrev pub Answers : Type 0
 Answers = Word → List (List ℤ)
 
--- a word with the replies that are expected
+-- a word with the replies that are expected; where there is not one reply for each vector, no plan passes it
 pub record TestCase : Type 0 where
   pub word : Word
   pub replies : List (List ℤ)
-
--- a word with one expected reply per vector
-pub record IsTestCase (s : VectorSet) (test : TestCase) : Type 0 where
-  pub is_word : IsWordOf s test.word
-  pub one_each : length test.replies ≡ length test.word
 
 -- the test is answered as expected
 abbrev pub AnswersTest : Answers → TestCase → Type 0
@@ -54,7 +49,7 @@ no_test = record { word = []; replies = [] }
 abbrev pub failed_word : List TestCase → Failure → Word
 failed_word tests failure = take failure.step (slice_index_or tests (failure.test - 1) no_test).word
 
--- two answers to a word differ at its last vector and at no earlier one
+-- two plans' answers to a word differ at its last vector and at no earlier one
 pub record PartAtLast (first second : Answers) (word : Word) : Type 0 where
   pub front : Word
   pub last : List ℤ

@@ -1,4 +1,6 @@
-//! What holds of every plan, of answers and of words. Each law is a function's contract; the function does nothing.
+//! What holds of every plan, of answers and of words. Each law is a function's contract; the function does nothing. Where
+//! a law speaks of classes or witnesses, the classes cover the set (`Covers`): each vector of it is in one, and each
+//! witness is a member of its class.
 ghost use Rattle.std.specs.Prelude.{◌≡◌, ◌⊎◌, ◌↔◌, ℕ, ℤ, ◌+◌, ◌-◌, ◌≤◌, ◌++◌, [], ◌∷◌, List, length};
 ghost use Rattle.std.specs.List.{All, AllPairs};
 ghost use Rattle.lin_form.specs.declared.literal.Literal.{Literal};
@@ -83,8 +85,9 @@ pub fn same_steps_act_alike<P: Plan>(plan: &P)
         → ActsLike s m x y }
 {}
 
-/// A vector acts like itself, acting alike is symmetric, and it passes on. Two vectors act alike exactly where their
-/// witnesses do over words of witnesses, and exactly where after each word they get the same reply and lead alike.
+/// A vector acts like itself, acting alike is symmetric, and it passes on. Two vectors act alike exactly where after each
+/// word they get the same reply and lead alike, and, where members of a class act alike, exactly where their witnesses do
+/// over words of witnesses.
 pub fn acting_alike<P: Plan>(plan: &P)
     ensures itself { let m = P.plan plan.now in (s : VectorSet) (x : List ℤ) → ActsLike s m x x }
     ensures turned { let m = P.plan plan.now in (s : VectorSet) (x y : List ℤ) → ActsLike s m x y → ActsLike s m y x }
@@ -106,8 +109,8 @@ pub fn what_cannot_differ_is_the_same<P: Plan, Q: Plan>(plan: &P, other: &Q)
         (s : VectorSet) → ((Equal s a b → ⊥) → ⊥) → Equal s a b }
 {}
 
-/// A plan has one rank, which is the least number of states that it has at most. Over fewer vectors the rank is no
-/// greater, and no more words lead pairwise differently.
+/// A plan has at most one rank, which is the least number of states that it has at most. Over fewer vectors the rank is
+/// no greater, and no more words lead pairwise differently.
 pub fn rank_is_least<P: Plan>(plan: &P)
     ensures least { let m = P.plan plan.now in (s : VectorSet) (k n : ℕ) → HasRank s m k → HasAtMost s m n → k ≤ n }
     ensures one { let m = P.plan plan.now in (s : VectorSet) (k n : ℕ) → HasRank s m k → HasRank s m n → k ≡ n }
@@ -119,7 +122,8 @@ pub fn rank_is_least<P: Plan>(plan: &P)
         → AllPairs (LeadDifferently t m) words → HasAtMost s m n → length words ≤ n }
 {}
 
-/// Where members of a class act alike, a word and its word of witnesses have equal answers.
+/// Where members of a class act alike, a word and its word of witnesses have equal answers. The vectors of a word of
+/// witnesses are witnesses, and lie in the set.
 pub fn witnesses_stand_in<P: Plan>(plan: &P)
     ensures answers { let m = P.plan plan.now in
         (s : VectorSet) (r : Partition) → Covers s r → MembersActAlike s r m
@@ -167,7 +171,8 @@ pub fn model_is_inside<P: Plan>(model: &P)
 {}
 
 /// The theorem of the W-method (Chow 1978): a plan with at most `d` states more than the cover has words, counted over
-/// words of these or more vectors, that is tested with tails of at most `d + 1` vectors is equal to the model.
+/// words of these or more vectors, that answers as the model does each product of a word of the cover, a word of at most
+/// `d + 1` vectors and a mark is equal to the model.
 pub fn tested_plan_is_equal<P: Plan, Q: Plan>(model: &P, other: &Q)
     ensures { let m = P.plan model.now in let i = Q.plan other.now in
         (s t : VectorSet) (cover marks : List Word) (d : ℕ) → ((x : List ℤ) → IsIn t x → IsIn s x)
@@ -188,7 +193,8 @@ pub fn cover_is_rank<P: Plan>(plan: &P)
         (s : VectorSet) (cover marks : List Word) → AreCoverAndMarks s m cover marks → HasRank s m (length cover) }
 {}
 
-/// The W-method as the Wp-method in which all marks are the own marks of each word of the cover.
+/// Tests that have all products of the W-method are tests of either method: with all marks as the own marks of each word
+/// of the cover they have those of the Wp-method.
 pub fn all_marks_are_own<P: Plan>(model: &P)
     ensures { let m = P.plan model.now in
         (r : Partition) (n : ℕ) (cover marks : List Word) (tests : List TestCase) → Covers (box m r) r
@@ -210,7 +216,8 @@ pub fn tests_are_complete<P: Plan>(model: &P)
         (r : Partition) (n : ℕ) (tests : List TestCase) → AreMethodTests m r n tests → Complete m r n tests }
 {}
 
-/// Answers with one reply per vector pass all tests or have one first failure, and not both.
+/// Answers with one reply per vector pass all tests that expect one reply per vector, or have one first failure, and not
+/// both.
 pub fn verdict_is_one()
     ensures either { (answers : Answers) (tests : List TestCase) → ((w : Word) → length (answers w) ≡ length w)
         → All (λ test. length test.replies ≡ length test.word) tests

@@ -1,4 +1,5 @@
-//! What holds of the suites of both methods. Each law is a function's contract; the function does nothing.
+//! What holds of the suites of both methods. Each law is a function's contract; the function does nothing. All but the
+//! first and the last ask that the classes cover the model's box (`Covers`), as those of its partition do.
 ghost use Rattle.std.specs.Prelude.{◌≡◌, ◌↔◌, ℕ, List, length};
 ghost use Rattle.std.specs.List.{All};
 ghost use Rattle.input_classes.specs.Partition.{Covers, Partition, witnesses};

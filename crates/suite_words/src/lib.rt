@@ -7,7 +7,7 @@ ghost use Rattle.suite_words.specs.Cover.{AreLetters};
 ghost use Rattle.suite_words.specs.Marks.{AreMarksBy};
 ghost use Rattle.suite_words.specs.Tests.{AreTests};
 
-/// There is at most one list of marks.
+/// Of at least one cover word there is at most one list of marks.
 pub fn one_list_of_marks()
     ensures { (f : ℕ → List ℕ → List (List ℤ)) (n c : ℕ) (xs ys : List (List ℕ)) →
         0 < n → AreMarksBy f n c xs → AreMarksBy f n c ys → xs ≡ ys }
