@@ -11,3 +11,5 @@ pub mod Small
 pub mod Unique
 pub mod Seen
 pub mod Keywords
+pub mod Formed
+pub mod CutLines

@@ -73,7 +73,7 @@ ArePlain ts = (i : ℕ) (x : Lexeme) → Has ts i x → IsPlain x
 pub plain_lexemes : (line : List ℕ) (ts : List Lexeme) → IsLexed line ts → ArePlain ts
 plain_lexemes line ts h i x e = plain_at (content_of line) h.tokens i x (sym (ap (λ us. slice_get us i) h.mean) ∙ e)
 
-small_signed : (ts : List Lexeme) (i : ℕ) (s : Signed) → ArePlain ts → IsSigned ts i s → IsSmallNumber s
+pub small_signed : (ts : List Lexeme) (i : ℕ) (s : Signed) → ArePlain ts → IsSigned ts i s → IsSmallNumber s
 small_signed ts i (Plain n) plain h = plain i (Number n) h
 small_signed ts i (Negated n) plain h = plain (i + 1) (Number n) h.1
 
@@ -139,8 +139,8 @@ few_in_sum : (xs : List SignedTerm) → 2 * length xs ≤ sum_size xs + 1
 few_in_sum [] = omega arith
 few_in_sum (x ∷ xs) = let a = few_terms xs in let b = wide_first x.negated x.term in omega (arith, a, b)
 
-small_test : (ts : List Lexeme) (i : ℕ) (t : TestForm) → ArePlain ts → length ts ≤ 1024 → 1 ≤ i → IsTest ts i t → IsSmallTest t
-small_test ts i t plain short after h = record {
+pub small_test : (ts : List Lexeme) (i : ℕ) (t : TestForm) → ArePlain ts → length ts ≤ 1024 → IsTest ts i t → IsSmallTest t
+small_test ts i t plain short h = record {
   few =
       let a = sum_within ts (i + sum_size t.left + 1) t.right h.2 in
       let b = few_in_sum t.left in
@@ -164,39 +164,39 @@ small_each ts i lead [] plain short h = All-nil IsSmallAction
 small_each ts i lead (x ∷ more) plain short h = All-cons IsSmallAction x more (small_action ts (i + 1) x plain short h.1) (small_each ts (i + 1 + action_size x) Comma more plain short h.2)
 
 mutual
-  small_guard : (ts : List Lexeme) (i : ℕ) (g : Guard) → ArePlain ts → length ts ≤ 1024 → 1 ≤ i → IsGuard ts i g → AreSmallTests (guard_tree g)
-  small_guard ts i (conj c) plain short after p = small_conj ts i c plain short after p
-  small_guard ts i (or c g) plain short after p = small_or ts (i + conj_size c + 1) (conj_tree c) g plain short (omega arith) (small_conj ts i c plain short after p.0) p.2
+  pub small_guard : (ts : List Lexeme) (i : ℕ) (g : Guard) → ArePlain ts → length ts ≤ 1024 → IsGuard ts i g → AreSmallTests (guard_tree g)
+  small_guard ts i (conj c) plain short p = small_conj ts i c plain short p
+  small_guard ts i (or c g) plain short p = small_or ts (i + conj_size c + 1) (conj_tree c) g plain short (small_conj ts i c plain short p.0) p.2
 
-  small_or : (ts : List Lexeme) (i : ℕ) (front : Tree) (g : Guard) → ArePlain ts → length ts ≤ 1024 → 1 ≤ i → AreSmallTests front → IsGuard ts i g → AreSmallTests (or_onto front g)
-  small_or ts i front (conj c) plain short after small p = (small, small_conj ts i c plain short after p)
-  small_or ts i front (or c g) plain short after small p = small_or ts (i + conj_size c + 1) (tree.or front (conj_tree c)) g plain short (omega arith) (small, small_conj ts i c plain short after p.0) p.2
+  small_or : (ts : List Lexeme) (i : ℕ) (front : Tree) (g : Guard) → ArePlain ts → length ts ≤ 1024 → AreSmallTests front → IsGuard ts i g → AreSmallTests (or_onto front g)
+  small_or ts i front (conj c) plain short small p = (small, small_conj ts i c plain short p)
+  small_or ts i front (or c g) plain short small p = small_or ts (i + conj_size c + 1) (tree.or front (conj_tree c)) g plain short (small, small_conj ts i c plain short p.0) p.2
 
-  small_conj : (ts : List Lexeme) (i : ℕ) (c : Conj) → ArePlain ts → length ts ≤ 1024 → 1 ≤ i → IsConj ts i c → AreSmallTests (conj_tree c)
-  small_conj ts i (unit u) plain short after p = small_unit ts i u plain short after p
-  small_conj ts i (and u c) plain short after p = small_and ts (i + unit_size u + 1) (unit_tree u) c plain short (omega arith) (small_unit ts i u plain short after p.0) p.2
+  small_conj : (ts : List Lexeme) (i : ℕ) (c : Conj) → ArePlain ts → length ts ≤ 1024 → IsConj ts i c → AreSmallTests (conj_tree c)
+  small_conj ts i (unit u) plain short p = small_unit ts i u plain short p
+  small_conj ts i (and u c) plain short p = small_and ts (i + unit_size u + 1) (unit_tree u) c plain short (small_unit ts i u plain short p.0) p.2
 
-  small_and : (ts : List Lexeme) (i : ℕ) (front : Tree) (c : Conj) → ArePlain ts → length ts ≤ 1024 → 1 ≤ i → AreSmallTests front → IsConj ts i c → AreSmallTests (and_onto front c)
-  small_and ts i front (unit u) plain short after small p = (small, small_unit ts i u plain short after p)
-  small_and ts i front (and u c) plain short after small p = small_and ts (i + unit_size u + 1) (tree.and front (unit_tree u)) c plain short (omega arith) (small, small_unit ts i u plain short after p.0) p.2
+  small_and : (ts : List Lexeme) (i : ℕ) (front : Tree) (c : Conj) → ArePlain ts → length ts ≤ 1024 → AreSmallTests front → IsConj ts i c → AreSmallTests (and_onto front c)
+  small_and ts i front (unit u) plain short small p = (small, small_unit ts i u plain short p)
+  small_and ts i front (and u c) plain short small p = small_and ts (i + unit_size u + 1) (tree.and front (unit_tree u)) c plain short (small, small_unit ts i u plain short p.0) p.2
 
-  small_unit : (ts : List Lexeme) (i : ℕ) (u : Unit') → ArePlain ts → length ts ≤ 1024 → 1 ≤ i → IsUnit ts i u → AreSmallTests (unit_tree u)
-  small_unit ts i (not u) plain short after p = small_unit ts (i + 1) u plain short (omega arith) p.1
-  small_unit ts i (paren g) plain short after p = small_guard ts (i + 1) g plain short (omega arith) p.1
-  small_unit ts i (test t) plain short after p = small_test ts i t plain short after p
+  small_unit : (ts : List Lexeme) (i : ℕ) (u : Unit') → ArePlain ts → length ts ≤ 1024 → IsUnit ts i u → AreSmallTests (unit_tree u)
+  small_unit ts i (not u) plain short p = small_unit ts (i + 1) u plain short p.1
+  small_unit ts i (paren g) plain short p = small_guard ts (i + 1) g plain short p.1
+  small_unit ts i (test t) plain short p = small_test ts i t plain short p
 
-small_when : (line : List ℕ) (ts : List Lexeme) (w : Option Guard) (value : Option Tree) → IsLexed line ts → length ts ≤ 1024 → IsWhen ts 2 w → value ≡ option_map guard_tree w → ForSome value IsSmallGuard
+pub small_when : (line : List ℕ) (ts : List Lexeme) (w : Option Guard) (value : Option Tree) → IsLexed line ts → length ts ≤ 1024 → IsWhen ts 2 w → value ≡ option_map guard_tree w → ForSome value IsSmallGuard
 small_when line ts None value lexed short p e = λ g h. absurd (let f : None ≡ Some g = sym e ∙ h in cc)
 small_when line ts (Some w) value lexed short p e = λ g h.
     let f : Some (guard_tree w) ≡ Some g = sym e ∙ h in
     let same : guard_tree w ≡ g = cc in
-    let small : IsSmallGuard (guard_tree w) = record { tests = small_guard ts 3 w (plain_lexemes line ts lexed) short (omega arith) p.1; nots = few_nots line ts 3 w lexed p.1 } in
+    let small : IsSmallGuard (guard_tree w) = record { tests = small_guard ts 3 w (plain_lexemes line ts lexed) short p.1; nots = few_nots line ts 3 w lexed p.1 } in
     subst IsSmallGuard same small
 
 small_statement : (line : List ℕ) (ts : List Lexeme) (s : Statement) → IsLexed line ts → length ts ≤ 1024 → IsStatement ts s → IsSmallStatement s
 small_statement line ts (says.Chart n) lexed short h = tt
 small_statement line ts (says.Input f) lexed short h = let plain = plain_lexemes line ts lexed in (plain 1 (Named f.name) h.1, small_signed ts _ f.lo plain h.2, small_signed ts _ f.hi plain h.3)
-small_statement line ts (says.Assume t) lexed short h = small_test ts 1 t (plain_lexemes line ts lexed) short (omega arith) h.1
+small_statement line ts (says.Assume t) lexed short h = small_test ts 1 t (plain_lexemes line ts lexed) short h.1
 small_statement line ts (says.Output f) lexed short h = let plain = plain_lexemes line ts lexed in (plain 1 (Named f.name) h.1, small_signed ts _ f.value plain h.2)
 small_statement line ts (says.Memory f) lexed short h =
     let plain = plain_lexemes line ts lexed in

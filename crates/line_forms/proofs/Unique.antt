@@ -30,7 +30,7 @@ use Rattle.line_forms.proofs.Parts.{one_named, one_marked, one_history, behind_w
 use Rattle.line_forms.proofs.Numerals.{one_signed}
 
 -- where nothing continues either of two derivations, they are the same
-both_end : (E : Type 0) (class : Lexeme → Bool) (ts : List Lexeme) (i m n : ℕ) → Stops class ts (i + m) → Stops class ts (i + n) → Compared E class ts i m n → E
+pub both_end : (E : Type 0) (class : Lexeme → Bool) (ts : List Lexeme) (i m n : ℕ) → Stops class ts (i + m) → Stops class ts (i + n) → Compared E class ts i m n → E
 both_end E class ts i m n p q (same e) = e
 both_end E class ts i m n p q (first less h) = absurd (p h)
 both_end E class ts i m n p q (second less h) = absurd (q h)
@@ -48,7 +48,7 @@ one_each ts i lead (x ∷ xs) (y ∷ ys) p q s t =
     let h = one_each ts (i + 1 + action_size x) Comma xs ys p.2 (subst P (sym e) q.2) a (subst S (sym e) b) in
     λ j. e j ∷ h j
 
-one_when : (ts : List Lexeme) (i : ℕ) (a b : Option Guard) → IsWhen ts i a → IsWhen ts i b → Stops in_guard ts (i + when_size a) → Stops in_guard ts (i + when_size b) → a ≡ b
+pub one_when : (ts : List Lexeme) (i : ℕ) (a b : Option Guard) → IsWhen ts i a → IsWhen ts i b → Stops in_guard ts (i + when_size a) → Stops in_guard ts (i + when_size b) → a ≡ b
 one_when ts i None None p q s t = refl
 one_when ts i None (Some h) p q s t = absurd (p q.0)
 one_when ts i (Some g) None p q s t = absurd (q p.0)
@@ -57,10 +57,10 @@ one_when ts i (Some g) (Some h) p q s t =
     let b = moved in_guard ts (i + (1 + guard_size h)) (i + 1 + guard_size h) (omega arith) t in
     ap Some (both_end (g ≡ h) in_guard ts (i + 1) (guard_size g) (guard_size h) a b (one_guard ts (i + 1) g h p.1 q.1))
 
-one_name : (ts : List Lexeme) (i : ℕ) (a b : List ℕ) → Has ts i (Named a) → Has ts i (Named b) → a ≡ b
+pub one_name : (ts : List Lexeme) (i : ℕ) (a b : List ℕ) → Has ts i (Named a) → Has ts i (Named b) → a ≡ b
 one_name ts i a b p q = cc
 
-one_input : (ts : List Lexeme) (a b : InputForm) → IsInputForm ts a → IsInputForm ts b → a ≡ b
+pub one_input : (ts : List Lexeme) (a b : InputForm) → IsInputForm ts a → IsInputForm ts b → a ≡ b
 one_input ts a b p q =
     let n = one_name ts 1 a.name b.name p.1 q.1 in
     let l = one_signed ts 2 a.lo b.lo p.2 q.2 in

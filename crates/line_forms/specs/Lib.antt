@@ -5,3 +5,5 @@ pub mod Longest
 pub mod Forms
 pub mod Views
 pub mod Limits
+pub mod Formed
+pub mod CutForms

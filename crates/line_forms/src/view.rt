@@ -9,12 +9,14 @@ ghost use Rattle.line_forms.specs.Forms.{IsSighted, AreNumbers, IsWordForm};
 ghost use Rattle.line_forms.specs.Views.{IsView, Views};
 ghost use Rattle.line_forms.specs.Limits.{IsSmallSight, AreSmallNumbers};
 ghost use Rattle.line_forms.specs.Longest.{Derives};
+ghost use Rattle.line_forms.specs.Formed.{IsSeen};
 
 use crate::error::FormError;
 use crate::form::sight;
 use crate::line::Line;
 use crate::lookup::{signed_at, signed_size};
 use crate::numbers::Numbers;
+use crate::parsed::{LineForm, ParsedLine, look};
 use crate::statement::{Sighted, Signed, WordForm};
 use line_tokens::{TokenError, Tokenizer, content};
 use std::alloc::{AllocError, Global};
@@ -95,6 +97,29 @@ impl Viewer {
         }
         match sight(alloc, &self.line) {
             Ok(sighted) => Ok(Some(sighted)),
+            Err(_) => Err(TokenError::Memory),
+        }
+    }
+
+    /// What a line says, in the forms of any format, or None where it is blank.
+    pub fn see_form<F: LineForm>(
+        &mut self,
+        alloc: Global,
+        line: &[u8],
+    ) -> Result<Option<ParsedLine<F>>, TokenError>
+        ensures view { Views (IsSeen F.Is) line.now result }
+        ensures small { IfOk result (λ seen. ForSome seen (λ s. ForSome s.form F.Small)) }
+    {
+        match self.take(line) {
+            Ok(()) => {}
+            Err(error) => return Err(error),
+        }
+        if self.line.len() == 0 {
+            return Ok(None);
+        }
+        F::small();
+        match look(alloc, &self.line) {
+            Ok(seen) => Ok(Some(seen)),
             Err(_) => Err(TokenError::Memory),
         }
     }

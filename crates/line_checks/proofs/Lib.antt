@@ -1,0 +1,5 @@
+pub mod Sums
+pub mod Adding
+pub mod Places
+pub mod Moderate
+pub mod Kept

@@ -1,0 +1,5 @@
+pub mod Names
+pub mod Sums
+pub mod Guards
+pub mod Answers
+pub mod inside
