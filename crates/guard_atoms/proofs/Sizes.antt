@@ -56,10 +56,18 @@ before P (x ∷ xs) ys h = (h.0, before P xs ys h.1)
 pub assumed_small : (assumed others : List Comparison) → list_any is_large (assumed ++ others) ≡ false → All (λ q. AreWithin 1000000 q.form.inputs) assumed
 assumed_small assumed others e = All-from_recursion (λ q. AreWithin 1000000 q.form.inputs) assumed (before (λ q. AreWithin 1000000 q.form.inputs) assumed others (all_small (assumed ++ others) e))
 
-mapped_at : {X Y : Type 0} (f : X → Y) (xs : List X) (i : ℕ) (x : X) → i < length xs → x ≡ get_or xs i x → get_or (map f xs) i (f x) ≡ f x
+behind : {X : Type 0} (P : X → Type 0) (xs ys : List X) → AllByRecursion P (xs ++ ys) → AllByRecursion P ys
+behind P [] ys h = h
+behind P (x ∷ xs) ys h = behind P xs ys h.1
+
+-- and so has the second
+pub small_parts : (assumed others : List Comparison) → list_any is_large (assumed ++ others) ≡ false → AllByRecursion (λ q. AreWithin 1000000 q.form.inputs) others
+small_parts assumed others e = behind (λ q. AreWithin 1000000 q.form.inputs) assumed others (all_small (assumed ++ others) e)
+
+pub mapped_at : {X Y : Type 0} (f : X → Y) (xs : List X) (i : ℕ) (x : X) → i < length xs → x ≡ get_or xs i x → get_or (map f xs) i (f x) ≡ f x
 mapped_at f xs i x l e = get_or-map f xs i x (f x) l ∙ ap f (sym e)
 
-within : {X Y : Type 0} (f : X → Y) (xs : List X) (i : ℕ) → i < length xs → i < length (map f xs)
+pub within : {X Y : Type 0} (f : X → Y) (xs : List X) (i : ℕ) → i < length xs → i < length (map f xs)
 within f xs i l = subst (λ n. i < n) (sym (length-map xs f)) l
 
 -- one of a list passes a test
