@@ -1,0 +1,4 @@
+pub mod Verdicts
+pub mod Replies
+pub mod Places
+pub mod CallerLemmas

@@ -1,0 +1,4 @@
+pub mod Subject
+pub mod Verdict
+pub mod Exchange
+pub mod Script

@@ -1,0 +1,20 @@
+-- Bytes that are pushed one after another.
+use Rattle.std.proofs.Common.{◌≡◌, ℕ, ◌+◌, ◌<◌, List, [], ◌∷◌, ◌++◌, length, take, map, get_or, refl, sym, ap, ◌∙◌, append_assoc, append-nil}
+use Rattle.std.proofs.lemmas.List.{take_more, map_push, flat_map_more}
+use Rattle.suite_model.specs.Scratch.{Place}
+use Rattle.strict_lines.specs.Lines.{Token, spelled, tail_text}
+use Rattle.verdict_report.specs.inside.Lines.{Pushes}
+
+pub pushes_more : {old mid new : Place} {a b c : List ℕ} → Pushes old mid a → Pushes mid new b → c ≡ a ++ b → Pushes old new c
+pushes_more {old} {mid} {new} {a} {b} {c} p q e = record {
+  line = q.line ∙ ap (λ x. x ++ b) p.line ∙ append_assoc old.line a b ∙ ap (λ x. old.line ++ x) (sym e);
+  letters = q.letters ∙ p.letters;
+  room = q.room ∙ p.room;
+}
+
+-- the tail of one more token
+pub tail_more : {X : Type 0} (f : X → Token) (xs : List X) (i : ℕ) (d : X) → i < length xs → tail_text (map f (take (i + 1) xs)) ≡ tail_text (map f (take i xs)) ++ (32 ∷ spelled (f (get_or xs i d)))
+tail_more f xs i d inside =
+    ap (λ ys. tail_text (map f ys)) (take_more xs i d inside)
+    ∙ ap tail_text (map_push f (take i xs) (get_or xs i d))
+    ∙ sym (flat_map_more (λ t. 32 ∷ spelled t) [] (map f (take i xs)) (f (get_or xs i d)))
