@@ -1,0 +1,160 @@
+//! What texts read as, and the first line and check that refuses a text that is no table; the steps of a table; the first
+//! difference of two signatures.
+use crate::{Table, Unfit, fits, read_table};
+use chart_syntax::ChartError;
+use lin_form::{Signature, Vector};
+use std::alloc::{AllocError, Global};
+use std::test::Fail;
+use subject::Plan;
+
+/// A table of an alarm with three states.
+const ALARM: &str = "table 1/input v 0 10/output alarm/state L gives 0/state H gives 1/state T gives 1/\
+row L when v >= 8 gives 1 go H/row H when v <= 5 gives 0 go L/row H when v >= 8 gives 1 go T/\
+row T when v <= 5 gives 0 go L/row T when v >= 8 gives 0 go T/";
+
+/// Texts and what is wanted of each, with ` | ` between the two; `/` is a line feed. A table is told by its numbers of
+/// inputs, outputs, states and rows, and by the replies of its states.
+const TEXTS: &str = "
+table 1/input v 0 10/output o/state S gives 5/ | 1 1 1 0 [5]
+# of one state/\r/table 1 # version/input v -3 -3/input w 0 1/output o/output p/state S gives -1000000000000 0/ | 2 2 1 0 [-1000000000000, 0]
+table 1/input v 0 1/output o/state S gives 0/row S gives 1 go S/row S when not v = 1 or v < 0 gives - 7 go S/ | 1 1 1 2 [0]
+ | 1 Version
+/# nothing/ | 3 Version
+table 2/ | 1 Version
+chart 1/ | 1 Version
+input v 0 10/ | 1 Version
+table $/ | 1 Byte
+table 1/table 1/ | 2 NoSuchLine
+table 1/memory n 0 1 0/ | 2 NoSuchLine
+table 1/output o/input v 0 1/ | 3 Misplaced
+table 1/output o/input v 0/ | 3 Misplaced
+table 1/input v 0/ | 2 Form
+table 1/output o 0/ | 2 Form
+table 1/output state/ | 2 Form
+table 1/input v 0 1/output o/state S gives/ | 4 Form
+table 1/input v 0 1/output o/state S gives 1 2/ | 4 Form
+table 1/input v 0 1/output o/state S gives 1/row S when gives 1 go S/ | 5 Form
+table 1/input v 0 1/output o/state S gives 1/row S when v > 0 gives go S/ | 5 Form
+table 1/input v 0 1/output o/state S gives 1/row S gives 1/ | 5 Form
+table 1/input v 0 1/output o/state S gives 1/row S gives 1 go S S/ | 5 Form
+table 1/input v 0 1000001/ | 2 limit Literal
+table 1/output o/state S gives 1000000000001/ | 3 limit Literal
+table 1/input v 0 1/input v 2 1/ | 3 Double
+table 1/input v 0 1/output v/ | 3 Double
+table 1/input v 0 1/output o/state S gives 1/state S gives 2/ | 5 Double
+table 1/input v 0 1/output o/state v gives 1/ | 1 1 1 0 [1]
+table 1/input v 0 1/output o/state S gives 1/row T when o > 0 gives 1 go U/ | 5 Unknown
+table 1/input v 0 1/output o/state S gives 1/row S when o > 0 gives 1 go S/ | 5 Unknown
+table 1/input v 0 1/output o/state S gives 1/row S gives 1 go U/ | 5 Unknown
+table 1/input v 2 1/ | 2 Range
+table 1/input a 0 0/input b 0 0/input c 0 0/input d 0 0/input e 0 0/input f 0 0/input g 0 0/ | 8 limit Inputs
+table 1/output a/output b/output c/output d/output e/output f/output g/output h/output i/ | 10 limit Outputs
+table 1/input v 0 1/output o/ | 4 Missing
+table 1/input v 0 1/state S gives/ | 4 Missing
+table 1/output o/state S gives 1/ | 4 Missing
+";
+
+fn text_of(alloc: Global, written: &str) -> Result<String, AllocError> {
+    let mut text = String::new(alloc);
+    for character in written.chars() {
+        text.push(if character == '/' { '\n' } else { character })?;
+    }
+    Ok(text)
+}
+
+fn describe(alloc: Global, table: &Table) -> Result<String, AllocError> {
+    let mut text = String::new(alloc);
+    let inputs = table.signature.inputs.as_slice().len();
+    let outputs = table.signature.outputs.as_slice().len();
+    write!(text, "{inputs} {outputs} {} {}", table.states.len(), table.rows.len())?;
+    for state in table.states.as_slice() {
+        write!(text, " {:?}", state.reply.as_slice())?;
+    }
+    Ok(text)
+}
+
+fn answer(alloc: Global, text: &str) -> Result<String, AllocError> {
+    let mut told = String::new(alloc);
+    match read_table(alloc, text.as_bytes()) {
+        Ok(table) => return describe(alloc, &table),
+        Err(ChartError::Fault { line, kind }) => write!(told, "{line} {kind:?}")?,
+        Err(ChartError::Limit { line, which }) => write!(told, "{line} limit {which:?}")?,
+        Err(ChartError::Memory) => return Err(AllocError),
+    }
+    Ok(told)
+}
+
+fn table(alloc: Global, written: &str) -> Result<Table, AllocError> {
+    let text = text_of(alloc, written)?;
+    match read_table(alloc, text.as_bytes()) {
+        Ok(table) => Ok(table),
+        Err(_) => Err(AllocError),
+    }
+}
+
+#[test]
+fn tables(rt: HostRuntime) -> Result<(), Fail> {
+    for row in TEXTS.lines() {
+        let Some((written, want)) = row.split_once(" | ") else {
+            assert!(rt; row.is_empty(), "no row: {row}");
+            continue;
+        };
+        let text = text_of(rt.alloc(), written)?;
+        let found = answer(rt.alloc(), text.as_str())?;
+        assert_eq!(rt; found.as_str(), want, "{row}");
+    }
+    Ok(())
+}
+
+#[test]
+fn steps(rt: HostRuntime) -> Result<(), Fail> {
+    let alarm = table(rt.alloc(), ALARM)?;
+    let mut state = alarm.begin();
+    for (input, reply, next) in [
+        (7, 0, 0),
+        (8, 1, 1),
+        (6, 1, 1),
+        (9, 1, 2),
+        (6, 1, 2),
+        (8, 0, 2),
+        (5, 0, 0),
+    ] {
+        let step = alarm.advance(&state, &Vector::from_slice(rt.alloc(), &[input]));
+        assert_eq!(rt; step.reply.as_slice(), &[reply], "{input}");
+        assert_eq!(rt; step.state, next, "{input}");
+        state = step.state;
+    }
+    Ok(())
+}
+
+fn fit(rt: &HostRuntime, model: &Signature, front: &str) -> Result<Result<(), Unfit>, AllocError> {
+    let mut written = String::from_str(rt.alloc(), "table 1/")?;
+    written.push_str(front)?;
+    written.push_str("state S gives 0 0/")?;
+    let other = table(rt.alloc(), written.as_str())?;
+    Ok(fits(model, &other.signature))
+}
+
+#[test]
+fn differences(rt: HostRuntime) -> Result<(), Fail> {
+    let model = table(
+        rt.alloc(),
+        "table 1/input a 0 1/input b 0 1/output o/output p/state S gives 0 0/",
+    )?;
+    for (front, want) in [
+        ("input a 0 1/input b 0 1/output o/output p/", Ok(())),
+        ("input a 0 1/output p/output o/", Err(Unfit::Inputs)),
+        ("input a 0 1/input c 0 1/output p/output o/", Err(Unfit::Input(1))),
+        ("input a 0 1/input b 0 2/output p/output o/", Err(Unfit::Input(1))),
+        ("input a -1 1/input c 0 2/output p/output o/", Err(Unfit::Input(0))),
+        ("input a 0 1/input b 0 1/output p/output o/", Err(Unfit::Output(0))),
+        ("input a 0 1/input b 0 1/output o/output q/", Err(Unfit::Output(1))),
+    ] {
+        let found = fit(&rt, &model.signature, front)?;
+        assert_eq!(rt; found, want, "{front}");
+    }
+    let one = table(rt.alloc(), "table 1/input a 0 1/input b 0 1/output x/state S gives 0/")?;
+    let found = fits(&model.signature, &one.signature);
+    assert_eq!(rt; found, Err(Unfit::Outputs));
+    Ok(())
+}
