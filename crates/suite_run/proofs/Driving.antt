@@ -1,19 +1,19 @@
 -- All tests, one after another.
-use Rattle.std.proofs.Common.{◌≡◌, ◌≢◌, ℕ, zero, suc, ◌+◌, ◌-◌, ◌<◌, ◌≤◌, ℤ, List, [], ◌∷◌, ◌++◌, length, take, drop, get_or, Option, Some, refl, sym, ap, ◌∙◌, subst, arith, append_assoc, append-nil, slice_get, length-append}
+use Rattle.std.proofs.Common.{◌≡◌, ℕ, zero, suc, ◌+◌, ◌-◌, ◌<◌, ◌≤◌, ℤ, List, [], ◌∷◌, ◌++◌, length, take, drop, get_or, Some, refl, sym, ap, ◌∙◌, subst, arith, append_assoc, append-nil, slice_get, length-append}
 use Rattle.std.specs.List.{flat_map, All}
 use Rattle.std.proofs.lemmas.List.{length-take-le, take_all, take_at}
 use Rattle.std.proofs.lemmas.List.Concat.{flat_map-append}
 use Rattle.std.proofs.lemmas.List.Elements.{All-push, All-head, All-tail, All-take}
 use Rattle.std.proofs.lemmas.Option.{slice_get_within, slice_get-get_or, get_or_from_slice_get}
-use Rattle.subject.specs.Tests.{Answers, TestCase, AnswersTest, Passes, no_test}
-use Rattle.test_subject.specs.Subject.{SubjectState, ToldPlan, Keeps, IsAhead, Gives, Sends, SendsPrefix}
+use Rattle.subject.specs.Tests.{TestCase, AnswersTest, Passes, no_test}
+use Rattle.test_subject.specs.Subject.{SubjectState, ToldPlan, Keeps, IsAhead, Gives, Sends}
 use Rattle.test_subject.specs.Verdict.{IsVerdict, NamesDifference, test_at, expected_at}
-use Rattle.test_subject.specs.Exchange.{Turn, Reset, Step, lines, steps, test_turns, turns, up_to, run_up_to, lines_to, replies_to, exchange}
-use Rattle.test_subject.specs.declared.verdict.Verdict.TheVariants.{Pass, Fail}
+use Rattle.test_subject.specs.Exchange.{Turn, Reset, Step, steps, test_turns, turns, up_to, run_up_to, lines_to, replies_to, exchange}
+use Rattle.test_subject.specs.declared.verdict.Verdict.TheVariants.{Fail}
 use Rattle.test_subject.proofs.CallerLemmas.{all_at}
 use Rattle.suite_run.specs.inside.Running.{turn_replies, replies, Ran, Stopped, HasPassed, Agrees, Differs}
 use Rattle.suite_run.proofs.Turns.{one_more, cut_at, steps_to, steps_at, replies-steps}
-use Rattle.suite_run.proofs.Running.{ran_both, stopped_after, stopped_before, stopped_lines, stopped_exchange, ran_exchange, differs_exchange}
+use Rattle.suite_run.proofs.Running.{ran_both, stopped_after, stopped_before, ran_exchange, differs_exchange}
 use Rattle.suite_run.proofs.Testing.{one_less}
 
 abbrev wanted : TestCase → List (List ℤ)
@@ -69,9 +69,10 @@ module _ (before now after : SubjectState) (tests : List TestCase) (i : ℕ) (tc
     pub names_difference : NamesDifference tests (Fail (i + 1) (step + 1) given)
     names_difference =
         let below = slice_get_within tests i tc there in
-        let within = in_test in
-        (record { some_test = omega arith; in_tests = omega arith; some_step = omega arith; in_test = subst (λ (t : TestCase). step + 1 ≤ length t.replies) (sym test_is) (omega arith) },
-        λ e. d.differs (e ∙ expected_is))
+        let within = in_test in (
+          record { some_test = omega arith; in_tests = omega arith; some_step = omega arith; in_test = subst (λ (t : TestCase). step + 1 ≤ length t.replies) (sym test_is) (omega arith) },
+          λ e. d.differs (e ∙ expected_is),
+        )
 
     pub fail_verdict : (plan : ToldPlan) → before.plan ≡ Some plan → IsVerdict plan.answers tests (Fail (i + 1) (step + 1) given)
     fail_verdict plan told =

@@ -1,12 +1,11 @@
 -- Turns one after another, and what was sent in them.
-use Rattle.std.proofs.Common.{◌≡◌, ◌≢◌, ℕ, ◌+◌, ◌<◌, ◌≤◌, ℤ, List, [], ◌∷◌, ◌++◌, length, take, drop, Option, Some, None, refl, sym, ap, ◌∙◌, subst, arith, append_assoc, append-nil}
-use Rattle.std.specs.List.{flat_map}
+use Rattle.std.proofs.Common.{◌≡◌, ◌≢◌, ℕ, ℤ, List, [], ◌∷◌, ◌++◌, Option, Some, None, refl, sym, ap, ◌∙◌, subst, append_assoc, append-nil}
 use Rattle.std.proofs.lemmas.List.Concat.{flat_map-append}
 use Rattle.test_world.specs.Growth.{IsLonger}
-use Rattle.test_world.specs.Sink.{SinkState, Grows, GrowsByPrefix}
+use Rattle.test_world.specs.Sink.{SinkState}
 use Rattle.test_world.proofs.Growing.{grows_by_nothing, grows_by_both, prefix_after, prefix_before}
-use Rattle.test_subject.specs.Subject.{SubjectState, ToldPlan, Keeps, IsAhead, Gives, Sends, SendsPrefix, reset_line, in_line}
-use Rattle.test_subject.specs.Exchange.{Turn, Reset, Step, turn_line, lines, exchange}
+use Rattle.test_subject.specs.Subject.{SubjectState, IsAhead, Gives, Sends, SendsPrefix}
+use Rattle.test_subject.specs.Exchange.{Turn, Step, turn_line, lines, exchange}
 use Rattle.suite_run.specs.inside.Running.{turn_replies, replies, Ran, Stopped}
 use Rattle.suite_run.proofs.Turns.{exchange-ran, exchange-differs, exchange-next}
 

@@ -1,5 +1,5 @@
 -- One test, step by step.
-use Rattle.std.proofs.Common.{◌≡◌, ◌≢◌, ℕ, ◌+◌, ◌-◌, ◌<◌, ◌≤◌, ℤ, List, [], ◌∷◌, ◌++◌, length, take, drop, Option, Some, refl, sym, ap, ◌∙◌, subst, arith, append_assoc, append-nil, slice_get, is_some, true}
+use Rattle.std.proofs.Common.{◌≡◌, ◌≢◌, ℕ, ◌+◌, ◌-◌, ◌≤◌, ℤ, List, [], ◌∷◌, ◌++◌, length, take, drop, Option, Some, refl, sym, ap, ◌∙◌, subst, arith, append_assoc, append-nil, slice_get, is_some, true}
 use Rattle.std.proofs.lemmas.List.{take_all}
 use Rattle.lin_form.specs.declared.signature.Signature.{Signature}
 use Rattle.lin_form.specs.Range.{IsInRanges}
@@ -8,7 +8,7 @@ use Rattle.subject.specs.Domain.{IsFitting}
 use Rattle.subject.specs.Suite.{Test}
 use Rattle.subject.specs.Tests.{TestCase}
 use Rattle.test_subject.specs.Subject.{SubjectState, ToldPlan, Keeps, AnswersEach, Moves, Gives, Sends, SendsPrefix, in_line}
-use Rattle.test_subject.specs.Exchange.{Turn, Reset, Step, turn_line, steps, test_turns, up_to}
+use Rattle.test_subject.specs.Exchange.{Turn, Reset, Step, steps, test_turns}
 use Rattle.suite_run.specs.inside.Running.{Ran, Stopped, IsAtStep, Agrees, Differs}
 use Rattle.suite_run.proofs.Turns.{one_more, cut_at, steps_to, steps_at}
 use Rattle.suite_run.proofs.Running.{ran_both, ran_one, stopped_one, stopped_after}

@@ -84,7 +84,11 @@ fn failed(test: usize, difference: Difference) -> Verdict
 
 /// Resets the subject before each test of the suite and steps it through the test's witnesses, up to the first reply that
 /// differs from the expected one. It takes no memory.
-pub fn drive<S: Subject>(suite: &Suite, subject: &mut S, scratch: &mut Scratch) -> Result<Verdict, Fault>
+pub fn drive<S: Subject>(
+    suite: &Suite,
+    subject: &mut S,
+    scratch: &mut Scratch,
+) -> Result<Verdict, Fault>
     requires made { IsMadeFor suite.now scratch.old }
     requires fits { Fits suite.now.signature (S.state subject.old) }
     ensures verdict { IfOk result (λ v. ForSome (S.state subject.old).plan (λ plan.

@@ -1,5 +1,5 @@
 -- The steps of a suite's tests, with the vectors and replies that stand there.
-use Rattle.std.proofs.Common.{◌≡◌, ℕ, ◌<◌, ◌≤◌, ℤ, List, [], length, take, map, get_or, Some, refl, sym, ap, ◌∙◌, subst, arith, slice_get, option_map}
+use Rattle.std.proofs.Common.{◌≡◌, ℕ, ◌<◌, ◌≤◌, ℤ, List, [], length, take, get_or, Some, sym, ap, ◌∙◌, subst, arith, slice_get, option_map}
 use Rattle.std.specs.List.{All}
 use Rattle.std.proofs.lemmas.List.{get_or-take, get_or_read, length-take, length-map}
 use Rattle.std.proofs.lemmas.List.Elements.{All-get_or, All-map, All-weaker}

@@ -1,11 +1,11 @@
 -- Replies that come one after another have at most one verdict: the first that differs from the expected one is one.
-use Rattle.std.proofs.Common.{◌≡◌, ◌≢◌, ℕ, zero, suc, ◌+◌, ◌-◌, ◌<◌, ◌≤◌, ℤ, List, [], ◌∷◌, ◌++◌, length, take, drop, get_or, Some, refl, sym, ap, ◌∙◌, subst, arith, append_assoc, append-nil, length-append}
+use Rattle.std.proofs.Common.{◌≡◌, ◌≢◌, ℕ, zero, suc, ◌+◌, ◌-◌, ◌<◌, ◌≤◌, ℤ, List, [], ◌∷◌, ◌++◌, length, take, drop, get_or, refl, sym, ap, ◌∙◌, arith, append_assoc, append-nil, length-append}
 use Rattle.std.specs.List.{flat_map}
 use Rattle.std.proofs.lemmas.List.{take-append-drop, take_more, length-take-le}
 use Rattle.std.proofs.lemmas.List.Concat.{flat_map-append}
 use Rattle.subject.specs.Tests.{TestCase, no_test}
-use Rattle.test_subject.specs.Verdict.{NamesDifference, IsStep, test_at, expected_at}
-use Rattle.test_subject.specs.Exchange.{replies_to, run_up_to, up_to}
+use Rattle.test_subject.specs.Verdict.{NamesDifference, IsStep, test_at}
+use Rattle.test_subject.specs.Exchange.{replies_to, up_to}
 use Rattle.test_subject.specs.declared.verdict.Verdict.{Verdict}
 use Rattle.test_subject.specs.declared.verdict.Verdict.TheVariants.{Pass, Fail}
 
@@ -116,5 +116,6 @@ one_verdict_on coming left other tests (Fail test step given) (Fail test' step' 
     names_test {test} {step} h =
         let a : 0 < test = h.some_test in let b : test ≤ length tests = h.in_tests in let c : 0 < step = h.some_step in let d : step ≤ length (test_at tests test).replies = h.in_test in
         (omega arith, omega arith)
+
     from_pred : (a b : ℕ) → 0 < a → 0 < b → a - 1 ≡ b - 1 → a ≡ b
     from_pred a b h k e = omega arith

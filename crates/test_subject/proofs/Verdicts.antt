@@ -1,10 +1,10 @@
 -- Verdicts on answers.
-use Rattle.std.proofs.Common.{◌≡◌, ℕ, ℤ, List, length, refl, sym, ap, subst, ◌⊎◌, inl, inr}
+use Rattle.std.proofs.Common.{◌≡◌, List, length, refl, ap, subst, inl, inr}
 use Rattle.std.specs.List.{All}
-use Rattle.subject.specs.Tests.{Answers, TestCase, Passes, Failure, IsFirstFailure}
+use Rattle.subject.specs.Tests.{Answers, TestCase, Passes, Failure}
 use Rattle.subject.proofs.CallerLemmas.{passes_or_fails, excludes, one_failure}
 use Rattle.test_subject.specs.Subject.{AnswersEach}
-use Rattle.test_subject.specs.Verdict.{IsVerdict}
+use Rattle.test_subject.specs.Verdict.{IsVerdict, NamesStep, NamesDifference}
 use Rattle.test_subject.specs.declared.verdict.Verdict.{Verdict}
 use Rattle.test_subject.specs.declared.verdict.Verdict.TheVariants.{Pass, Fail}
 
@@ -30,3 +30,8 @@ pass_alone answers tests v h passes = one_verdict answers tests v Pass h passes
 
 pub passes : (answers : Answers) (tests : List TestCase) (v : Verdict) → IsVerdict answers tests v → v ≡ Pass → Passes answers tests
 passes answers tests v h e = subst (IsVerdict answers tests) e h
+
+-- a verdict that names a difference names a step
+pub names_step : (tests : List TestCase) (v : Verdict) → NamesDifference tests v → NamesStep tests v
+names_step tests Pass h = tt
+names_step tests (Fail test step given) h = h.0

@@ -5,7 +5,7 @@ use Rattle.std.specs.Option.{ForSome}
 use Rattle.lin_form.specs.declared.signature.Signature.{Signature}
 use Rattle.lin_form.specs.Signature.{IsInInputRanges}
 use Rattle.input_classes.specs.VectorSet.{Word}
-use Rattle.strict_lines.specs.Lines.{Token, Word as word, line_text}
+use Rattle.strict_lines.specs.Lines.{Word as word, line_text}
 use Rattle.test_world.specs.Growth.{IsLonger}
 use Rattle.suite_model.specs.Text.{numbers}
 use Rattle.subject.specs.Domain.{IsFitting}

@@ -1,5 +1,5 @@
 -- Verdicts on tests.
-use Rattle.std.specs.Prelude.{◌≡◌, ◌≢◌, ℕ, ◌-◌, ◌<◌, ◌≤◌, ℤ, List, [], length, slice_index_or}
+use Rattle.std.specs.Prelude.{◌≢◌, ℕ, ◌-◌, ◌<◌, ◌≤◌, ℤ, List, [], length, slice_index_or}
 use Rattle.subject.specs.Tests.{Answers, TestCase, Passes, IsFirstFailure, no_test}
 use Rattle.test_subject.specs.declared.verdict.Verdict.{Verdict}
 use Rattle.test_subject.specs.declared.verdict.Verdict.TheVariants.{Pass, Fail}

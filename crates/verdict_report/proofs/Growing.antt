@@ -1,7 +1,7 @@
 -- A sink that takes the parts of a text one after another.
-use Rattle.std.proofs.Common.{◌≡◌, ℕ, ◌+◌, ◌<◌, ◌≤◌, ◌*◌, ℤ, List, [], ◌∷◌, ◌++◌, length, take, drop, get_or, Option, Some, Err, refl, ap, sym, subst, ◌∙◌, append-nil, arith, slice_get}
+use Rattle.std.proofs.Common.{◌≡◌, ℕ, ◌+◌, ◌<◌, ◌≤◌, ◌*◌, List, [], ◌∷◌, ◌++◌, length, take, drop, Option, Some, Err, ap, sym, subst, ◌∙◌, append-nil, arith, slice_get}
 use Rattle.std.specs.List.{flat_map, All}
-use Rattle.std.proofs.lemmas.List.{take_more, take-append-drop, take-take, get_or-take, length-take-le}
+use Rattle.std.proofs.lemmas.List.{take_more, take-append-drop, get_or-take, length-take-le}
 use Rattle.std.proofs.lemmas.List.Concat.{flat_map-append}
 use Rattle.std.proofs.lemmas.Option.{slice_get_within, slice_get-get_or, get_or_from_slice_get}
 use Rattle.test_world.specs.Growth.{IsLonger}

@@ -1,7 +1,7 @@
 -- The text of a verdict.
 use Rattle.std.specs.Prelude.{ℕ, ℤ, pos, List, [], ◌∷◌, ◌++◌, codes}
 use Rattle.std.specs.List.{flat_map}
-use Rattle.strict_lines.specs.Lines.{Token, Number, Word, line_text}
+use Rattle.strict_lines.specs.Lines.{Number, Word, line_text}
 use Rattle.suite_model.specs.Text.{numbers}
 use Rattle.subject.specs.Tests.{TestCase, failed_word}
 use Rattle.test_subject.specs.Subject.{in_line}

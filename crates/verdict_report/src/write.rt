@@ -95,6 +95,8 @@ pub fn write_verdict<K: Sink>(
             set_numbers(scratch, b"pass", &[]);
             put_all(out, scratch.line())
         }
-        Verdict::Fail { test, step, given } => put_failure(suite, *test, *step, given, scratch, out),
+        Verdict::Fail { test, step, given } => put_failure(
+            suite, *test, *step, given, scratch, out,
+        ),
     }
 }

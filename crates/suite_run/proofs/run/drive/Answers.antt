@@ -1,7 +1,7 @@
-use Rattle.std.proofs.Common.{◌≡◌, ◌<◌, ◌≤◌, ◌∙◌, ap, sym, length, get_or, [], arith, slice_get, Some, take}
-use Rattle.std.proofs.lemmas.List.{length-map, take_at}
+use Rattle.std.proofs.Common.{◌∙◌, sym, arith}
+use Rattle.std.proofs.lemmas.List.{length-map}
 use Rattle.std.proofs.lemmas.Option.{slice_get-get_or, slice_get_within}
-use Rattle.subject.specs.Suite.{Test, test_case, tests_of}
+use Rattle.subject.specs.Suite.{test_case, tests_of}
 use Rattle.test_subject.proofs.CallerLemmas.{test_there, as_many, one_for_each}
 use Rattle.suite_run.proofs.Running.{stopped_lines, stopped_exchange}
 use Rattle.suite_run.proofs.Testing.{keeps_both, no_test}

@@ -1,4 +1,3 @@
-use Rattle.std.proofs.Common.{◌≡◌, take, Some}
 use Rattle.subject.specs.Suite.{tests_of}
 use Rattle.suite_model.specs.Scratch.{IsMadeFor}
 use Rattle.test_subject.specs.Subject.{Keeps}

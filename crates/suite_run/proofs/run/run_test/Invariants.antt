@@ -1,4 +1,4 @@
-use Rattle.std.proofs.Common.{◌≡◌, ◌++◌, take, slice_get, Some}
+use Rattle.std.proofs.Common.{◌≡◌, slice_get, Some}
 use Rattle.subject.specs.Suite.{Test, test_case}
 use Rattle.test_subject.specs.Subject.{Keeps}
 use Rattle.suite_run.specs.inside.Running.{IsAtStep}

@@ -1,14 +1,10 @@
-use Rattle.std.proofs.Common.{◌≡◌, ◌<◌, ◌≤◌, ◌-◌, ◌∙◌, ◌++◌, ap, sym, length, get_or, [], arith, slice_get, Some, refl, codes}
+use Rattle.std.proofs.Common.{◌∙◌, ◌++◌, ap, refl, codes}
 use Rattle.std.specs.List.{flat_map}
-use Rattle.std.proofs.lemmas.List.{length-map}
-use Rattle.std.proofs.lemmas.Option.{slice_get-get_or}
-use Rattle.subject.specs.Suite.{test_case, tests_of}
-use Rattle.subject.specs.Tests.{failed_word}
+use Rattle.subject.specs.Suite.{tests_of}
 use Rattle.test_world.proofs.Growing.{puts_then, puts_exit}
 use Rattle.test_subject.specs.Subject.{in_line}
 use Rattle.test_subject.specs.Verdict.{expected_at}
-use Rattle.verdict_report.specs.Text.{fail_line, reply_line}
-use Rattle.verdict_report.proofs.Growing.{no_test}
+use Rattle.verdict_report.specs.Text.{reply_line}
 use Rattle.verdict_report.proofs.Failing.{place, wanted_is, inputs_are, step_in}
 use Rattle.verdict_report.proofs.write.put_failure.Goals as goal
 

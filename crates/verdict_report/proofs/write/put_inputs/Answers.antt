@@ -1,4 +1,4 @@
-use Rattle.std.proofs.Common.{◌≡◌, ◌<◌, ◌≤◌, ◌∙◌, ap, sym, length, get_or, [], arith, slice_get, Some, refl}
+use Rattle.std.proofs.Common.{◌∙◌, ap, length, get_or, [], arith, refl}
 use Rattle.std.proofs.lemmas.List.{length-map}
 use Rattle.std.proofs.lemmas.Option.{slice_get-get_or}
 use Rattle.subject.specs.Suite.{in_vectors}
