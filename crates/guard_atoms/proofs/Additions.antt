@@ -4,6 +4,7 @@ use Rattle.std.specs.Prelude.{fold, flat_map, nat_lt, IsErrAnd}
 use Rattle.std.proofs.lemmas.Bool.Decides.{nat_tests}
 use Rattle.std.specs.List.{list_any}
 use Rattle.std.proofs.lemmas.List.{at_drop_more}
+use Rattle.std.proofs.lemmas.List.Folds.{flat_map-map}
 use Rattle.std.proofs.lemmas.List.Sums.{fold-append}
 use Rattle.lin_form.specs.Form.{memory_part}
 use Rattle.lin_form.specs.Inequality.{Inequality}
@@ -57,10 +58,6 @@ ends old all found h = (h.same, h.few)
 -- the same atoms, written otherwise
 pub adds_same : (old atoms others new : List Inequality) (result : Result (Unit {0}) AtomError) → atoms ≡ others → Adds old atoms new result → Adds old others new result
 adds_same old atoms others new result e h = subst (λ l. Adds old l new result) e h
-
-pub flat_map-map : {X Y Z : Type 0} (f : Y → List Z) (g : X → Y) (xs : List X) → flat_map f (map g xs) ≡ flat_map (λ x. f (g x)) xs
-flat_map-map f g [] = refl
-flat_map-map f g (x ∷ xs) = ap (λ l. f (g x) ++ l) (flat_map-map f g xs)
 
 flat_map-none : {X Y : Type 0} (none : List Y) → none ≡ [] → (xs : List X) → flat_map (λ x. none) xs ≡ []
 flat_map-none none e [] = refl

@@ -10,6 +10,7 @@ use Rattle.std.proofs.lemmas.Bool.{false≢true}
 use Rattle.std.proofs.lemmas.Bool.Decides.{Decides-and, Decides-int_eq}
 use Rattle.std.proofs.lemmas.List.Elements.{All-from_recursion, recursion_from_All}
 use Rattle.lin_form.specs.Atom.{inequality_of}
+use Rattle.guard_atoms.proofs.Each.{back, front, parts, unmap, weaker}
 use Rattle.lin_form.specs.Form.{relates, sum_of_products, truth_of}
 use Rattle.lin_form.specs.Inequality.{Inequality, says}
 use Rattle.lin_form.specs.Normal.{atoms_of_comparison}
@@ -33,26 +34,6 @@ use Rattle.chart_meaning.specs.Step.{is_guard_true, next_of, reply_of, start_of}
 use Rattle.chart_meaning.proofs.Deciding.{next_of-alike}
 use Rattle.chart_meaning.proofs.Keeping.{IsConfiguration-next, IsConfiguration-start}
 use Rattle.guard_atoms.specs.Atoms.{add, atoms_in, atoms_over, comparisons_on, guard_comparisons, is_same, numbers_from, valuations, values_of}
-
-front : {X : Type 0} (P : X → Type 0) (xs ys : List X) → AllByRecursion P (xs ++ ys) → AllByRecursion P xs
-front P [] ys h = tt
-front P (x ∷ xs) ys h = (h.0, front P xs ys h.1)
-
-back : {X : Type 0} (P : X → Type 0) (xs ys : List X) → AllByRecursion P (xs ++ ys) → AllByRecursion P ys
-back P [] ys h = h
-back P (x ∷ xs) ys h = back P xs ys h.1
-
-parts : {X Y : Type 0} (P : Y → Type 0) (f : X → List Y) (xs : List X) → AllByRecursion P (flat_map f xs) → AllByRecursion (λ x. AllByRecursion P (f x)) xs
-parts P f [] h = tt
-parts P f (x ∷ xs) h = (front P (f x) (flat_map f xs) h, parts P f xs (back P (f x) (flat_map f xs) h))
-
-weaker : {X : Type 0} (P Q : X → Type 0) (xs : List X) → ((x : X) → P x → Q x) → AllByRecursion P xs → AllByRecursion Q xs
-weaker P Q [] f h = tt
-weaker P Q (x ∷ xs) f h = (f x h.0, weaker P Q xs f h.1)
-
-unmap : {X Y : Type 0} (P : Y → Type 0) (f : X → Y) (xs : List X) → AllByRecursion P (map f xs) → AllByRecursion (λ x. P (f x)) xs
-unmap P f [] h = tt
-unmap P f (x ∷ xs) h = (h.0, unmap P f xs h.1)
 
 or_other : (b c : Bool) → b ≡ false → (b || c) ≡ true → c ≡ true
 or_other true c e h = absurd (false≢true (sym e))

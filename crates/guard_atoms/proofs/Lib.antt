@@ -1,3 +1,4 @@
+pub mod Each
 pub mod Agreeing
 pub mod Sizes
 pub mod Saying
@@ -5,3 +6,4 @@ pub mod Finding
 pub mod Additions
 pub mod Putting
 pub mod Widths
+pub mod SmallCharts

@@ -18,6 +18,7 @@ use Rattle.chart_model.specs.Chart.{IsMemory, range_size}
 use Rattle.chart_model.specs.declared.state.Memory.{Memory}
 use Rattle.guard_atoms.specs.Atoms.{numbers_from, valuations, values_of}
 use Rattle.guard_atoms.specs.inside.Adding.{sums_from}
+use Rattle.guard_atoms.proofs.Each.{joined, mapped, weaker}
 
 -- for each number, the sums of it and the products of all values that are put in
 abbrev pub sums_over : List ℤ → List Memory → List ℤ → List ℤ
@@ -161,18 +162,6 @@ summing_small coefficient constant memory old sums value end is h l small =
     let product = product_small coefficient value v in
     let both = unsigned_abs-add-le constant (coefficient *ℤ value) in
     (omega (arith, product, small), omega (arith, product, small, both))
-
-joined : {X : Type 0} (P : X → Type 0) (xs ys : List X) → AllByRecursion P xs → AllByRecursion P ys → AllByRecursion P (xs ++ ys)
-joined P [] ys h k = k
-joined P (x ∷ xs) ys h k = (h.0, joined P xs ys h.1 k)
-
-mapped : {X Y : Type 0} (P : Y → Type 0) (f : X → Y) (xs : List X) → AllByRecursion (λ x. P (f x)) xs → AllByRecursion P (map f xs)
-mapped P f [] h = tt
-mapped P f (x ∷ xs) h = (h.0, mapped P f xs h.1)
-
-weaker : {X : Type 0} (P Q : X → Type 0) (xs : List X) → ((x : X) → P x → Q x) → AllByRecursion P xs → AllByRecursion Q xs
-weaker P Q [] f h = tt
-weaker P Q (x ∷ xs) f h = (f x h.0, weaker P Q xs f h.1)
 
 each_number : (P : ℤ → Type 0) (low : ℤ) (n : ℕ) → ((v : ℤ) → low ≤ℤ v → v <ℤ (low +ℤ pos n) → P v) → AllByRecursion P (numbers_from low n)
 each_number P low zero f = tt

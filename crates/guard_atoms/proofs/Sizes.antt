@@ -9,6 +9,7 @@ use Rattle.std.proofs.lemmas.List.Elements.{recursion_from_All, All-from_recursi
 use Rattle.lin_form.specs.Range.{AreWithin}
 use Rattle.lin_form.specs.declared.form.Comparison.{Comparison}
 use Rattle.guard_atoms.specs.Atoms.{is_large}
+use Rattle.guard_atoms.proofs.Each.{back, front}
 
 or_false : (b c : Bool) → (b || c) ≡ false → (b ≡ false) × (c ≡ false)
 or_false true c e = absurd (false≢true (sym e))
@@ -48,21 +49,13 @@ pub all_small : (comparisons : List Comparison) → list_any is_large comparison
 all_small [] e = tt
 all_small (q ∷ comparisons) e = let h = or_false (is_large q) (list_any is_large comparisons) e in (small_from q h.0, all_small comparisons h.1)
 
-before : {X : Type 0} (P : X → Type 0) (xs ys : List X) → AllByRecursion P (xs ++ ys) → AllByRecursion P xs
-before P [] ys h = tt
-before P (x ∷ xs) ys h = (h.0, before P xs ys h.1)
-
 -- where none of two lists is large, the first has small coefficients alone
 pub assumed_small : (assumed others : List Comparison) → list_any is_large (assumed ++ others) ≡ false → All (λ q. AreWithin 1000000 q.form.inputs) assumed
-assumed_small assumed others e = All-from_recursion (λ q. AreWithin 1000000 q.form.inputs) assumed (before (λ q. AreWithin 1000000 q.form.inputs) assumed others (all_small (assumed ++ others) e))
-
-behind : {X : Type 0} (P : X → Type 0) (xs ys : List X) → AllByRecursion P (xs ++ ys) → AllByRecursion P ys
-behind P [] ys h = h
-behind P (x ∷ xs) ys h = behind P xs ys h.1
+assumed_small assumed others e = All-from_recursion (λ q. AreWithin 1000000 q.form.inputs) assumed (front (λ q. AreWithin 1000000 q.form.inputs) assumed others (all_small (assumed ++ others) e))
 
 -- and so has the second
 pub small_parts : (assumed others : List Comparison) → list_any is_large (assumed ++ others) ≡ false → AllByRecursion (λ q. AreWithin 1000000 q.form.inputs) others
-small_parts assumed others e = behind (λ q. AreWithin 1000000 q.form.inputs) assumed others (all_small (assumed ++ others) e)
+small_parts assumed others e = back (λ q. AreWithin 1000000 q.form.inputs) assumed others (all_small (assumed ++ others) e)
 
 pub mapped_at : {X Y : Type 0} (f : X → Y) (xs : List X) (i : ℕ) (x : X) → i < length xs → x ≡ get_or xs i x → get_or (map f xs) i (f x) ≡ f x
 mapped_at f xs i x l e = get_or-map f xs i x (f x) l ∙ ap f (sym e)

@@ -22,30 +22,11 @@ use Rattle.chart_model.specs.declared.chart.Chart.{Chart}
 use Rattle.chart_model.specs.declared.state.Memory.{Memory}
 use Rattle.guard_atoms.specs.Atoms.{add, atoms_in, atoms_over, comparisons_on, guard_comparisons, is_large, is_same, valuations}
 use Rattle.guard_atoms.specs.inside.Adding.{IsFormOfAtoms}
+use Rattle.guard_atoms.proofs.Each.{each, each_of, joined, unmap, weaker, whole}
 use Rattle.guard_atoms.proofs.Sizes.{small_parts}
 
 abbrev Over : ℕ → Inequality → Type 0
 Over n whole = length whole.coefficients ≡ n
-
-joined : {X : Type 0} (P : X → Type 0) (xs ys : List X) → AllByRecursion P xs → AllByRecursion P ys → AllByRecursion P (xs ++ ys)
-joined P [] ys h k = k
-joined P (x ∷ xs) ys h k = (h.0, joined P xs ys h.1 k)
-
-each : {X Y : Type 0} (P : Y → Type 0) (f : X → List Y) (xs : List X) → ((x : X) → AllByRecursion P (f x)) → AllByRecursion P (flat_map f xs)
-each P f [] h = tt
-each P f (x ∷ xs) h = joined P (f x) (flat_map f xs) (h x) (each P f xs h)
-
-each_of : {X Y : Type 0} (P : Y → Type 0) (Q : X → Type 0) (f : X → List Y) (xs : List X) → ((x : X) → Q x → AllByRecursion P (f x)) → AllByRecursion Q xs → AllByRecursion P (flat_map f xs)
-each_of P Q f [] h k = tt
-each_of P Q f (x ∷ xs) h k = joined P (f x) (flat_map f xs) (h x k.0) (each_of P Q f xs h k.1)
-
-weaker : {X : Type 0} (P Q : X → Type 0) (xs : List X) → ((x : X) → P x → Q x) → AllByRecursion P xs → AllByRecursion Q xs
-weaker P Q [] f h = tt
-weaker P Q (x ∷ xs) f h = (f x h.0, weaker P Q xs f h.1)
-
-unmap : {X Y : Type 0} (P : Y → Type 0) (f : X → Y) (xs : List X) → AllByRecursion P (map f xs) → AllByRecursion (λ x. P (f x)) xs
-unmap P f [] h = tt
-unmap P f (x ∷ xs) h = (h.0, unmap P f xs h.1)
 
 turned_width : (whole : Inequality) (b : Bool) → length (if b then whole else lowered (opposite whole)).coefficients ≡ length whole.coefficients
 turned_width whole true = refl
@@ -72,7 +53,9 @@ width_if n comparison memory true e = tt
 width_if n comparison memory false e = inequalities_width n comparison.relation (put_in comparison.form memory) e
 
 over_width : (n : ℕ) (memories : List Memory) (comparison : Comparison) → length comparison.form.inputs ≡ n → AllByRecursion (Over n) (atoms_over memories comparison)
-over_width n memories comparison e = each (Over n) (atoms_of_comparison comparison) (valuations comparison.form.memory memories) (λ memory. width_if n comparison memory (are_zero comparison.form.inputs) e)
+over_width n memories comparison e =
+    let vs = valuations comparison.form.memory memories in
+    whole (Over n) (atoms_of_comparison comparison) vs (each (λ memory. AllByRecursion (Over n) (atoms_of_comparison comparison memory)) vs (λ memory. width_if n comparison memory (are_zero comparison.form.inputs) e))
 
 add_if : (n : ℕ) (found : List Inequality) (atom : Inequality) (b : Bool) → AllByRecursion (Over n) found → Over n atom → AllByRecursion (Over n) (if b then found else found ++ atom ∷ [])
 add_if n found atom true h k = h
@@ -98,7 +81,6 @@ cuts_over n (cut ∷ cuts) h k = (record { moderate = h.0.moderate; width = k.0 
 -- all comparisons of a chart and cuts are over the chart's inputs
 pub all_over : (chart : Chart) (cuts : List Comparison) → AreCuts cuts → All (λ cut. length cut.form.inputs ≡ length chart.signature.inputs) cuts → AllByRecursion (IsOver (length chart.signature.inputs)) (guard_comparisons chart ++ cuts)
 all_over chart cuts are widths =
-    let n = length chart.signature.inputs in
     let moves = recursion_from_All (IsTransition (length chart.signature.inputs) (length chart.memories) (length chart.signature.outputs) chart.states) chart.transitions chart.kept.moves in
     joined (IsOver (length chart.signature.inputs)) (guard_comparisons chart) cuts
     (each_of (IsOver (length chart.signature.inputs)) (IsTransition (length chart.signature.inputs) (length chart.memories) (length chart.signature.outputs) chart.states) comparisons_on chart.transitions
@@ -108,7 +90,6 @@ all_over chart cuts are widths =
 -- each atom of a chart and cuts has one coefficient for each input
 pub atoms_width : (chart : Chart) (cuts : List Comparison) (atoms : List Atom) → AreCuts cuts → All (λ cut. length cut.form.inputs ≡ length chart.signature.inputs) cuts → map inequality_of atoms ≡ atoms_in chart cuts → All (λ atom. length atom.coefficients ≡ length chart.signature.inputs) atoms
 atoms_width chart cuts atoms are widths e =
-    let n = length chart.signature.inputs in
     let over = each_of (Over (length chart.signature.inputs)) (IsOver (length chart.signature.inputs)) (atoms_over chart.memories) (guard_comparisons chart ++ cuts)
     (λ q is. over_width (length chart.signature.inputs) chart.memories q is.width) (all_over chart cuts are widths) in
     let all = added_width (length chart.signature.inputs) [] (flat_map (atoms_over chart.memories) (guard_comparisons chart ++ cuts)) tt over in

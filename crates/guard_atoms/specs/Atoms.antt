@@ -21,7 +21,8 @@ numbers_from low (suc n) = low ∷ numbers_from (low +ℤ pos 1) n
 
 -- what is put in for a memory: each value of its range where its coefficient is not 0, and else 0 alone
 abbrev pub values_of : ℤ → Memory → List ℤ
-values_of coefficient memory = if int_eq coefficient (pos 0) then pos 0 ∷ [] else numbers_from memory.lo (range_size memory)
+values_of coefficient memory =
+    if int_eq coefficient (pos 0) then pos 0 ∷ [] else numbers_from memory.lo (range_size memory)
 
 -- the valuations of the memories with these coefficients, in lexicographic order, low values first
 abbrev pub valuations : List ℤ → List Memory → List (List ℤ)

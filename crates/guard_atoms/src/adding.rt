@@ -24,7 +24,8 @@ pub(crate) fn add_comparisons(
     requires few { length memories.now ≤ 4 }
     requires ranges { All IsMemory memories.now }
     requires forms { All IsFormOfAtoms (map (λ comparison. comparison.now) comparisons.now) }
-    ensures { Adds found.old (flat_map (atoms_over memories.now) (map (λ comparison. comparison.now) comparisons.now)) found.new result }
+    ensures { Adds found.old (flat_map (atoms_over memories.now) (map (λ comparison. comparison.now) comparisons.now))
+        found.new result }
 {
     for comparison in comparisons {
         add_comparison(alloc, memories, comparison, found)?;
@@ -78,7 +79,8 @@ fn add_pairs(
 
 /// Adds the atoms of a pair.
 fn add_pair(pair: Pair, found: &mut Found) -> Result<(), AtomError>
-    ensures { Adds found.old (map inequality_of (cons_option pair.first (cons_option pair.second []))) found.new result }
+    ensures { Adds found.old (map inequality_of (cons_option pair.first (cons_option pair.second [])))
+        found.new result }
 {
     let Pair { first, second } = pair;
     if let Some(atom) = first {

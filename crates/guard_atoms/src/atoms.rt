@@ -11,7 +11,10 @@ use chart_model::{Chart, Cuts};
 use lin_form::Atoms;
 use std::alloc::Global;
 
-/// The atoms of a chart's guards in written order, then those of the cuts.
+/// The atoms of a chart's guards in written order, then those of the cuts: for each comparison, with all values of the
+/// memories that it names put in, low values first. There are at most 128.
+///
+/// A large coefficient of an assumption, a guard or a cut is told before too many atoms.
 pub fn atoms_of(alloc: Global, chart: &Chart, cuts: &Cuts) -> Result<Atoms, AtomError>
     requires width { All (λ cut. length cut.form.inputs ≡ length chart.now.signature.inputs) cuts.now }
     ensures { MatchResult result (AreAtomsOf chart.now cuts.now) (IsAtomFault chart.now cuts.now) }

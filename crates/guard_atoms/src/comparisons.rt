@@ -11,7 +11,8 @@ pub(crate) fn comparisons_of<'a>(
     chart: &'a Chart,
     cuts: &'a [Comparison],
 ) -> Result<Vec<&'a Comparison>, AllocError>
-    ensures { IfOk result (λ found. map (λ comparison. comparison.now) found.items ≡ guard_comparisons chart.now ++ cuts.now) }
+    ensures { IfOk result (λ found. map (λ comparison. comparison.now) found.items
+        ≡ guard_comparisons chart.now ++ cuts.now) }
 {
     let mut found = Vec::new(alloc);
     add_guards(chart.transitions.as_slice(), &mut found)?;

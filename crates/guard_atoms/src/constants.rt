@@ -21,7 +21,8 @@ pub(crate) fn constants_of(
     requires ranges { All IsMemory memories.now }
     requires small { unsigned_abs constant + 1000 * size_of coefficients.now ≤ 901000000000 }
     ensures constants { IfOk result (λ constants. constants.items
-        ≡ map (λ values. sum_of_products coefficients.now values +ℤ constant) (valuations coefficients.now memories.now)) }
+        ≡ map (λ values. sum_of_products coefficients.now values +ℤ constant)
+        (valuations coefficients.now memories.now)) }
     ensures small { IfOk result (λ constants. AreWithin 901000000000 constants.items) }
 {
     let mut constants = Vec::new(alloc);
@@ -43,7 +44,8 @@ fn with_values(
     memory: &Memory,
 ) -> Result<Vec<i64>, AllocError>
     requires memory { IsMemory memory.now }
-    requires small { All (λ constant. unsigned_abs constant + 1000 * unsigned_abs coefficient ≤ 901000000000) constants.now }
+    requires small { All (λ constant. unsigned_abs constant + 1000 * unsigned_abs coefficient ≤ 901000000000)
+        constants.now }
     ensures { IfOk result (λ sums. sums.items ≡ flat_map (sums_from coefficient memory.now) constants.now) }
 {
     let mut sums = Vec::new(alloc);

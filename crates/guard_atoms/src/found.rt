@@ -8,6 +8,9 @@ use lin_form::{Atom, Atoms};
 use std::alloc::{AllocError, Global};
 use std::marker::Model;
 
+/// The most atoms of a list.
+const MOST: usize = 128;
+
 /// Different atoms, in the order in which they were found. Contracts see their inequalities.
 #[derive(Drop)]
 pub(crate) struct Found {
@@ -44,7 +47,7 @@ impl Found {
         let Ok(_) = self.atoms.insert(atom) else {
             return Err(AtomError::Memory);
         };
-        if self.atoms.len() > 128 {
+        if self.atoms.len() > MOST {
             return Err(AtomError::TooMany);
         }
         Ok(())

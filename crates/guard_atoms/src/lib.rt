@@ -10,6 +10,8 @@ mod error;
 mod found;
 mod large;
 mod laws;
+#[cfg(test)]
+mod tests;
 
 pub use assumptions::assumed;
 pub use atoms::atoms_of;

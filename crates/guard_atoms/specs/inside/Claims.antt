@@ -15,6 +15,7 @@ pub record AddsClaim (assumption : Comparison) (old new : List Literal) : Type 0
 
 -- literals that say what these assumptions do, at most two for each
 pub record AreClaims (inputs : ℕ) (assumed : List Comparison) (literals : List Literal) : Type 0 where
-  pub says : (x memory : List ℤ) → AreAsSaid literals x ↔ All (λ assumption. IsTrue (truth_of assumption x memory)) assumed
+  pub says : (x memory : List ℤ)
+      → AreAsSaid literals x ↔ All (λ assumption. IsTrue (truth_of assumption x memory)) assumed
   pub few : length literals ≤ 2 * length assumed
   pub width : All (λ literal. length literal.atom.coefficients ≡ inputs) literals

@@ -13,12 +13,12 @@ added c = ap (map inequality_of) c.in-Ok.ensures.keys ∙ inserted c.self.inside
 counted : (c : After-len) → length (map inequality_of c.insert.new.self.keys) ≡ c.len.result
 counted c = length-map c.insert.new.self.keys inequality_of ∙ sym c.len.ensures.len
 
-pub returns-then-len-gt128 : goal.returns-then-len-gt128
-returns-then-len-gt128 c =
-    let d = (goal.at.returns-then-len-gt128 c).After-len in
-    subst (λ n. 128 < n) (sym (counted d) ∙ ap length (added d)) c.if-len-gt128.true
+pub returns-then-len-gt-MOST : goal.returns-then-len-gt-MOST
+returns-then-len-gt-MOST c =
+    let d = (goal.at.returns-then-len-gt-MOST c).After-len in
+    subst (λ n. 128 < n) (sym (counted d) ∙ ap length (added d)) c.if-len-gt-MOST.true
 
 pub returns : goal.returns
 returns c =
     let d = (goal.at.returns c).After-len in
-    (added d, λ few. subst (λ n. n ≤ 128) (sym (counted d)) c.if-len-gt128.false)
+    (added d, λ few. subst (λ n. n ≤ 128) (sym (counted d)) c.if-len-gt-MOST.false)
