@@ -15,10 +15,7 @@ use std::alloc::Global;
 use text_lines::{LineError, TextError, TextReader, read_text};
 
 /// What the first line adds, which is nothing.
-fn first(
-    signature: &Signature,
-    form: &Option<CutsForm>,
-) -> Result<Option<Comparison>, LineRefusal>
+fn first(signature: &Signature, form: &Option<CutsForm>) -> Result<Option<Comparison>, LineRefusal>
     ensures value { Adds (first_check form.now) (cut_of signature.now form.now) result }
     ensures over { IfOk result (IsOver signature.now) }
 {

@@ -37,7 +37,7 @@ one_reply ts i (x ∷ xs) (y ∷ ys) p q s t =
     let a = moved ts (i + (number_size x + reply_size xs)) (i + number_size x + reply_size xs) (omega arith) s in
     let b = moved ts (i + (number_size y + reply_size ys)) (i + number_size y + reply_size ys) (omega arith) t in
     let h = one_reply ts (i + number_size x) xs ys p.1 (subst (λ n. IsReply ts (i + number_size n) ys) (sym e) q.1) a
-        (subst (λ n. Ends ts (i + number_size n + reply_size ys)) (sym e) b) in
+    (subst (λ n. Ends ts (i + number_size n + reply_size ys)) (sym e) b) in
     λ j. e j ∷ h j
 
 literal_is : (o : Option Lexeme) (n : ℕ) → literal_in o ≡ Some n → (x : Lexeme) × (o ≡ Some x)

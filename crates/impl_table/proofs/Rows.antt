@@ -75,7 +75,11 @@ row_read ts w end f read head from guard gives go to whole =
     let p = read.guarded.ends in
     let e : end ≡ 2 + when_size w + 1 + reply_size f.reply = read.whole.ends ∙ ap (λ i. i + 1 + reply_size f.reply) p in
     record {
-      when = w; head = head; from = from; guarded = read.guarded.spelled; guard = guard;
+      when = w;
+      head = head;
+      from = from;
+      guarded = read.guarded.spelled;
+      guard = guard;
       gives = subst (λ i. Has ts i (Reserved keyword.Gives)) p gives;
       reply = subst (λ i. IsReply ts (i + 1) f.reply) p read.whole.spelled;
       go = subst (λ i. Has ts i (Reserved keyword.Go)) e go;
@@ -96,8 +100,8 @@ one_row ts a b p q =
     let g : a.guard ≡ b.guard = p.guard ∙ ap (option_map guard_tree) w ∙ sym q.guard in
     let c : 2 + when_size q.when ≡ 2 + when_size p.when = ap (λ x. 2 + when_size x) (sym w) in
     let r = one_reply ts (2 + when_size p.when + 1) a.reply b.reply p.reply (subst (λ i. IsReply ts (i + 1) b.reply) c q.reply)
-        (ends_with_word ts (2 + when_size p.when + 1 + reply_size a.reply) keyword.Go p.go)
-        (subst (λ i. Ends ts (i + 1 + reply_size b.reply)) c (ends_with_word ts (2 + when_size q.when + 1 + reply_size b.reply) keyword.Go q.go)) in
+    (ends_with_word ts (2 + when_size p.when + 1 + reply_size a.reply) keyword.Go p.go)
+    (subst (λ i. Ends ts (i + 1 + reply_size b.reply)) c (ends_with_word ts (2 + when_size q.when + 1 + reply_size b.reply) keyword.Go q.go)) in
     let d : 2 + when_size q.when + 1 + reply_size b.reply + 1 ≡ 2 + when_size p.when + 1 + reply_size a.reply + 1 = λ j. c j + 1 + reply_size (sym r j) + 1 in
     let t = one_name ts (2 + when_size p.when + 1 + reply_size a.reply + 1) a.to b.to p.to (subst (λ i. Has ts i (Named b.to)) d q.to) in
     λ j. record { from = n j; guard = g j; reply = r j; to = t j }

@@ -55,7 +55,10 @@ fn group(head: Option<Keyword>) -> u8
 pub fn check_version(declared: &Declared, seen: &ParsedLine<TableForm>) -> Result<(), LineRefusal>
     ensures { Passes (version_check declared.now seen.now) result }
 {
-    fault_if(!declared.begun && !states_version(&seen.form), Kind::Version)
+    fault_if(
+        !declared.begun && !states_version(&seen.form),
+        Kind::Version,
+    )
 }
 
 /// Whether a later line begins with a word that begins lines.
@@ -69,7 +72,10 @@ pub fn check_word(declared: &Declared, seen: &ParsedLine<TableForm>) -> Result<(
 pub fn check_order(declared: &Declared, seen: &ParsedLine<TableForm>) -> Result<(), LineRefusal>
     ensures { Passes (order_check declared.now seen.now) result }
 {
-    fault_if(declared.begun && group(seen.head) < declared.group, Kind::Misplaced)
+    fault_if(
+        declared.begun && group(seen.head) < declared.group,
+        Kind::Misplaced,
+    )
 }
 
 /// Whether the line has a form, and its reply a number for each output.

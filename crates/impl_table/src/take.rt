@@ -141,7 +141,12 @@ fn condition(
         return Ok(None);
     };
     let inputs = declared.inputs.as_slice();
-    match resolved(alloc, &InputNames { inputs }, inputs.len(), guard.condition()) {
+    match resolved(
+        alloc,
+        &InputNames { inputs },
+        inputs.len(),
+        guard.condition(),
+    ) {
         Ok(guard) => Ok(Some(Condition::new(guard))),
         Err(Unresolved::Fault(_)) => Err(fault(Kind::Unknown)),
         Err(Unresolved::Memory) => Err(LineError::Memory),

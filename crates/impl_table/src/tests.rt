@@ -8,7 +8,8 @@ use std::test::Fail;
 use subject::Plan;
 
 /// A table of an alarm with three states.
-const ALARM: &str = "table 1/input v 0 10/output alarm/state L gives 0/state H gives 1/state T gives 1/\
+const ALARM: &str =
+    "table 1/input v 0 10/output alarm/state L gives 0/state H gives 1/state T gives 1/\
 row L when v >= 8 gives 1 go H/row H when v <= 5 gives 0 go L/row H when v >= 8 gives 1 go T/\
 row T when v <= 5 gives 0 go L/row T when v >= 8 gives 0 go T/";
 
@@ -66,7 +67,12 @@ fn describe(alloc: Global, table: &Table) -> Result<String, AllocError> {
     let mut text = String::new(alloc);
     let inputs = table.signature.inputs.as_slice().len();
     let outputs = table.signature.outputs.as_slice().len();
-    write!(text, "{inputs} {outputs} {} {}", table.states.len(), table.rows.len())?;
+    write!(
+        text,
+        "{inputs} {outputs} {} {}",
+        table.states.len(),
+        table.rows.len()
+    )?;
     for state in table.states.as_slice() {
         write!(text, " {:?}", state.reply.as_slice())?;
     }
@@ -120,7 +126,7 @@ fn steps(rt: HostRuntime) -> Result<(), Fail> {
         (5, 0, 0),
     ] {
         let step = alarm.advance(&state, &Vector::from_slice(rt.alloc(), &[input]));
-        assert_eq!(rt; step.reply.as_slice(), &[reply], "{input}");
+        assert_eq!(rt; step.reply.as_slice(), [reply].as_slice(), "{input}");
         assert_eq!(rt; step.state, next, "{input}");
         state = step.state;
     }
@@ -144,17 +150,72 @@ fn differences(rt: HostRuntime) -> Result<(), Fail> {
     for (front, want) in [
         ("input a 0 1/input b 0 1/output o/output p/", Ok(())),
         ("input a 0 1/output p/output o/", Err(Unfit::Inputs)),
-        ("input a 0 1/input c 0 1/output p/output o/", Err(Unfit::Input(1))),
-        ("input a 0 1/input b 0 2/output p/output o/", Err(Unfit::Input(1))),
-        ("input a -1 1/input c 0 2/output p/output o/", Err(Unfit::Input(0))),
-        ("input a 0 1/input b 0 1/output p/output o/", Err(Unfit::Output(0))),
-        ("input a 0 1/input b 0 1/output o/output q/", Err(Unfit::Output(1))),
+        (
+            "input a 0 1/input c 0 1/output p/output o/",
+            Err(Unfit::Input(1)),
+        ),
+        (
+            "input a 0 1/input b 0 2/output p/output o/",
+            Err(Unfit::Input(1)),
+        ),
+        (
+            "input a -1 1/input c 0 2/output p/output o/",
+            Err(Unfit::Input(0)),
+        ),
+        (
+            "input a 0 1/input b 0 1/output p/output o/",
+            Err(Unfit::Output(0)),
+        ),
+        (
+            "input a 0 1/input b 0 1/output o/output q/",
+            Err(Unfit::Output(1)),
+        ),
     ] {
         let found = fit(&rt, &model.signature, front)?;
         assert_eq!(rt; found, want, "{front}");
     }
-    let one = table(rt.alloc(), "table 1/input a 0 1/input b 0 1/output x/state S gives 0/")?;
+    let one = table(
+        rt.alloc(),
+        "table 1/input a 0 1/input b 0 1/output x/state S gives 0/",
+    )?;
     let found = fits(&model.signature, &one.signature);
     assert_eq!(rt; found, Err(Unfit::Outputs));
+    Ok(())
+}
+
+fn repeated(text: &mut String, piece: &str, count: usize) -> Result<(), AllocError> {
+    for number in 0..count {
+        write!(text, "{piece}{number} gives 0\n")?;
+    }
+    Ok(())
+}
+
+#[test]
+fn limits(rt: HostRuntime) -> Result<(), Fail> {
+    for (states, want) in [(1_024, "1 1 1024 0"), (1_025, "1028 limit States")] {
+        let mut text = String::from_str(rt.alloc(), "table 1\ninput v 0 1\noutput o\n")?;
+        repeated(&mut text, "state s", states)?;
+        let found = answer(rt.alloc(), text.as_str())?;
+        assert!(rt; found.starts_with(want), "{found}");
+    }
+    for (rows, want) in [(4_096, "1 1 1 4096 [0]"), (4_097, "4101 limit Rows")] {
+        let front = "table 1\ninput v 0 1\noutput o\nstate s gives 0\n";
+        let mut text = String::from_str(rt.alloc(), front)?;
+        for _ in 0..rows {
+            text.push_str("row s gives 0 go s\n")?;
+        }
+        let found = answer(rt.alloc(), text.as_str())?;
+        assert_eq!(rt; found.as_str(), want);
+    }
+    for (comparisons, want) in [(63, "1 1 1 1 [0]"), (64, "5 limit Comparisons")] {
+        let front = "table 1\ninput v 0 1\noutput o\nstate s gives 0\nrow s when v > 0";
+        let mut text = String::from_str(rt.alloc(), front)?;
+        for _ in 0..comparisons {
+            text.push_str(" or v > 0")?;
+        }
+        text.push_str(" gives 0 go s\n")?;
+        let found = answer(rt.alloc(), text.as_str())?;
+        assert_eq!(rt; found.as_str(), want);
+    }
     Ok(())
 }

@@ -3,3 +3,4 @@ pub mod Adding
 pub mod Places
 pub mod Moderate
 pub mod Kept
+pub mod Walks

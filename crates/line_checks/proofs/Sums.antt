@@ -60,4 +60,3 @@ weight_collect s subtracted sum (t ∷ terms) small =
     let b = small_signed (is_negative subtracted t.negated) (factor_of t.term) (small_factor t.term h) in
     let d = weight_collect s subtracted (add_term s subtracted sum t) terms m in
     omega (arith, a, b, d)
-

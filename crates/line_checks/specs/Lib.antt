@@ -1,5 +1,6 @@
 pub mod Names
 pub mod Sums
 pub mod Guards
+pub mod Runs
 pub mod Answers
 pub mod inside

@@ -54,6 +54,7 @@ impl LineForm for CutsForm {
     ghost use Rattle.line_forms.specs.CutForms.{IsCutsForm, IsSmallCutsForm};
 
     ghost Is = { IsCutsForm };
+
     ghost Small = { IsSmallCutsForm };
 
     fn read(alloc: Global, line: &Line) -> Result<CutsForm, FormError> {

@@ -27,7 +27,7 @@ pub use form::input_form;
 pub use guard::guard_at;
 pub use keyword::Keyword;
 pub use laws::{all_small, one_numbers, one_sight, some_numbers, some_sight};
-pub use lexeme::Lexeme;
+pub use lexeme::{Lexeme, meaning};
 pub use line::Line;
 pub use lookup::{is_minus, is_reserved, keyword_at, name_at, number_at};
 pub use numbers::Numbers;

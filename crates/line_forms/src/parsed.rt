@@ -19,6 +19,7 @@ use std::alloc::{AllocError, Global};
 /// What the lines of a format can say.
 pub trait LineForm: Drop {
     ghost Is: { List Lexeme → Self → Type 0 };
+
     ghost Small: { Self → Type 0 };
 
     /// What a line says, where its tokens derive from a form.
