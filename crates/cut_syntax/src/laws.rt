@@ -6,10 +6,11 @@ ghost use Rattle.cut_syntax.specs.Cuts.{ReadsCuts, RefusesCuts};
 
 use line_forms::{CutsForm, one_seen, some_seen};
 
-/// For each text there is exactly one reading as cuts over a signature, or exactly one refusal: not two, not both, and it
-/// cannot be that there is neither.
+/// For each text there is exactly one reading as cuts over a signature, or exactly one refusal: not two, not both, and
+/// it cannot be that there is neither.
 pub fn cuts_or_refusal()
-    ensures { (signature : Signature) (text : List ℕ) → IsDecided (ReadsCuts signature text) (RefusesCuts signature text) }
+    ensures { (signature : Signature) (text : List ℕ)
+        → IsDecided (ReadsCuts signature text) (RefusesCuts signature text) }
 {
     one_seen::<CutsForm>();
     some_seen::<CutsForm>();

@@ -138,9 +138,9 @@ impl<'a> TextReader for CutsReader<'a> {
 /// The cuts over a signature that a text reads as.
 ///
 /// A text that is none is refused with the number of the first line that a check meets, from 1, and what the first such
-/// check on it tells: `Version` where the first line is not `cuts 1`, `NoSuchLine` where a later line does not begin with
-/// `cut`, `Form` where it is no cut, `Unknown` where a name is no input. A text without such lines has no version, which
-/// has the number after the last line's.
+/// check on it tells: `Version` where the first line is not `cuts 1`, `NoSuchLine` where a later line does not begin
+/// with `cut`, `Form` where it is no cut, `Unknown` where a name is no input. A text without lines that say something
+/// lacks its version, which has the number after the last line's.
 pub fn read_cuts(alloc: Global, text: &[u8], signature: &Signature) -> Result<Cuts, ChartError>
     ensures read { IfOk result (ReadsCuts signature.now text.now) }
     ensures refused { IfErr result (IsRefusedBy (RefusesCuts signature.now text.now)) }

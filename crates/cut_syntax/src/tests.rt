@@ -1,4 +1,4 @@
-//! What texts read as over the inputs of a chart, and the first line and check that refuses a text that is no list of cuts.
+//! What texts read as over the inputs of a chart, and the first line and check that refuses a text that is none.
 use crate::read_cuts;
 use chart_model::{Chart, Cuts};
 use chart_syntax::{ChartError, read_chart};

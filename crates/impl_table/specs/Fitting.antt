@@ -17,12 +17,14 @@ is_same_input a b = is_same_name a.name b.name && int_eq a.lo b.lo && int_eq a.h
 
 -- the first input that differs, counted from n
 abbrev pub first_input : ℕ → List Input → List Input → Option Unfit
-first_input n (a ∷ model) (b ∷ other) = if is_same_input a b then first_input (n + 1) model other else Some (unfit.Input n)
+first_input n (a ∷ model) (b ∷ other) =
+    if is_same_input a b then first_input (n + 1) model other else Some (unfit.Input n)
 first_input n model other = None
 
 -- the first output whose name differs, counted from n
 abbrev pub first_output : ℕ → List (List ℕ) → List (List ℕ) → Option Unfit
-first_output n (a ∷ model) (b ∷ other) = if is_same_name a b then first_output (n + 1) model other else Some (unfit.Output n)
+first_output n (a ∷ model) (b ∷ other) =
+    if is_same_name a b then first_output (n + 1) model other else Some (unfit.Output n)
 first_output n model other = None
 
 abbrev pub inputs_difference : List Input → List Input → Option Unfit

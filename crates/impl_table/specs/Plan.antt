@@ -34,5 +34,6 @@ plan_of_table table = record {
   signature = table.signature;
   start = 0;
   next = λ state vector. option_map_or (λ row. row.to) (first_row table.rows state vector) state;
-  reply = λ state vector. option_map_or (λ row. row.reply) (first_row table.rows state vector) (own_reply table.states state);
+  reply = λ state vector.
+      option_map_or (λ row. row.reply) (first_row table.rows state vector) (own_reply table.states state);
 }

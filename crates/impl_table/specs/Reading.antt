@@ -1,5 +1,5 @@
--- The checks of a line of a table in their order, what a text reads as, where it is a table, and what refuses it, where it
--- is none.
+-- The checks of a line of a table in their order, what a text reads as, where it is a table, and what refuses it, where
+-- it is none.
 use Rattle.std.specs.Prelude.{◌≡◌, ℕ, Bool, true, false, not, ◌&&◌, ◌||◌, if◌then◌else◌, ◌==◌, nat_lt, nat_le, int_lt}
 use Rattle.std.specs.Prelude.{List, [], ◌∷◌, ◌++◌, length, map, position, Option, Some, None, option_map, unwrap_or}
 use Rattle.std.specs.Prelude.{ℤ, is_some, Result, Ok, Err}

@@ -1,7 +1,8 @@
 //! The checks of a line that take no memory.
 ghost use Rattle.std.specs.Prelude.{◌≡◌};
 ghost use Rattle.chart_syntax.specs.Checks.{fault_check, limit_check};
-ghost use Rattle.impl_table.specs.Reading.{is_version, group_of, is_formed, version_check, word_check, order_check, form_check};
+ghost use Rattle.impl_table.specs.Reading.{is_version, group_of, is_formed};
+ghost use Rattle.impl_table.specs.Reading.{version_check, word_check, order_check, form_check};
 ghost use Rattle.impl_table.specs.inside.Lines.{Passes};
 
 use crate::form::TableForm;

@@ -1,6 +1,7 @@
 ghost use Rattle.std.specs.Prelude.{◌≡◌, IfOk, IfErr};
 ghost use Rattle.subject.specs.Domain.{IsFitting};
-ghost use Rattle.impl_table.specs.Fitting.{is_same_input, inputs_difference, outputs_difference, first_difference, Tells};
+ghost use Rattle.impl_table.specs.Fitting.{is_same_input, inputs_difference, outputs_difference};
+ghost use Rattle.impl_table.specs.Fitting.{first_difference, Tells};
 
 use lin_form::{Input, Name, Signature};
 

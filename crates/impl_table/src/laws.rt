@@ -7,8 +7,8 @@ use crate::form::TableForm;
 use line_checks::guards_fit;
 use line_forms::{one_seen, small_seen, some_seen};
 
-/// For each text there is exactly one reading as a table, or exactly one refusal: not two, not both, and it cannot be that
-/// there is neither.
+/// For each text there is exactly one reading as a table, or exactly one refusal: not two, not both, and it cannot be
+/// that there is neither.
 pub fn table_or_refusal()
     ensures { (text : List ℕ) → IsDecided (ReadsTable text) (RefusesTable text) }
 {

@@ -8,7 +8,8 @@ ghost use Rattle.text_lines.specs.declared.read.LineError.TheVariants as line_er
 ghost use Rattle.chart_syntax.specs.declared.error.Refusal.TheVariants as refusal;
 ghost use Rattle.impl_table.specs.declared.form.TableForm.TheVariants as says;
 ghost use Rattle.impl_table.specs.Forms.{IsSmallReplyNumber, IsSmallTableForm};
-ghost use Rattle.impl_table.specs.Reading.{scope_of, when_check, state_check, state_of, said_check, next, is_formed, row_in, front_check, line_check, some_next};
+ghost use Rattle.impl_table.specs.Reading.{scope_of, when_check, state_check, state_of, is_formed, row_in};
+ghost use Rattle.impl_table.specs.Reading.{said_check, front_check, line_check, next, some_next};
 ghost use Rattle.impl_table.specs.Reading.{comparisons_check, names_check};
 ghost use Rattle.impl_table.specs.inside.Lines.{AreFew, Passes, Gives, Declares, Resolves};
 
@@ -61,7 +62,8 @@ fn value(number: Signed) -> i64
 fn take_input(declared: &mut Declared, form: &InputForm) -> Result<(), LineError<LineRefusal>>
     requires lo { IsSmallNumber form.now.lo }
     requires hi { IsSmallNumber form.now.hi }
-    ensures { Declares (said_check declared.old (says.Input form.now)) (next declared.old (says.Input form.now)) declared.new result }
+    ensures { Declares (said_check declared.old (says.Input form.now))
+        (next declared.old (says.Input form.now)) declared.new result }
 {
     if is_variable(declared, form.name) {
         return Err(fault(Kind::Double));
@@ -80,7 +82,8 @@ fn take_input(declared: &mut Declared, form: &InputForm) -> Result<(), LineError
 }
 
 fn take_output(declared: &mut Declared, name: Name) -> Result<(), LineError<LineRefusal>>
-    ensures { Declares (said_check declared.old (says.Output name)) (next declared.old (says.Output name)) declared.new result }
+    ensures { Declares (said_check declared.old (says.Output name))
+        (next declared.old (says.Output name)) declared.new result }
 {
     if is_variable(declared, name) {
         return Err(fault(Kind::Double));
@@ -98,7 +101,8 @@ fn take_output(declared: &mut Declared, name: Name) -> Result<(), LineError<Line
 fn take_state(declared: &mut Declared, form: &StateForm) -> Result<(), LineError<LineRefusal>>
     requires few { length form.now.reply ≤ 8 }
     requires small { All IsSmallReplyNumber form.now.reply }
-    ensures { Declares (said_check declared.old (says.State form.now)) (next declared.old (says.State form.now)) declared.new result }
+    ensures { Declares (said_check declared.old (says.State form.now))
+        (next declared.old (says.State form.now)) declared.new result }
 {
     if state_number(declared, form.name).is_some() {
         return Err(fault(Kind::Double));
@@ -135,7 +139,8 @@ fn condition(
 ) -> Result<Option<Condition>, LineError<LineRefusal>>
     requires few { length declared.now.inputs ≤ 6 }
     requires small { ForSome guard.now IsSmallGuard }
-    ensures { Resolves (when_check declared.now guard.now) (option_map (guard_of (scope_of declared.now) (length declared.now.inputs)) guard.now) result }
+    ensures { Resolves (when_check declared.now guard.now)
+        (option_map (guard_of (scope_of declared.now) (length declared.now.inputs)) guard.now) result }
 {
     let Some(guard) = guard else {
         return Ok(None);
@@ -201,7 +206,8 @@ fn take_row(
     requires inputs { length declared.old.inputs ≤ 6 }
     requires few { length form.now.reply ≤ 8 }
     requires small { IsSmallTableForm (says.Row form.now) }
-    ensures { Declares (said_check declared.old (says.Row form.now)) (next declared.old (says.Row form.now)) declared.new result }
+    ensures { Declares (said_check declared.old (says.Row form.now))
+        (next declared.old (says.Row form.now)) declared.new result }
 {
     match check_comparisons(form) {
         Ok(()) => {}

@@ -1,5 +1,5 @@
-//! What texts read as, and the first line and check that refuses a text that is no table; the steps of a table; the first
-//! difference of two signatures.
+//! What texts read as, and the first line and check that refuses a text that is no table; the steps of a table; the
+//! first difference of two signatures.
 use crate::{Table, Unfit, fits, read_table};
 use chart_syntax::ChartError;
 use lin_form::{Signature, Vector};

@@ -27,8 +27,8 @@ GivesEnd {T} Is size at None = (said : T) → Is at said → ⊥
 abbrev pub IsRun : List Lexeme → ℕ → ℕ → Guard → Type 0
 IsRun ts at end said = IsLongest (IsGuard ts) guard_size at end said
 
--- the guard of the longest run over the names; or there is no run; or it has more than 64 comparisons; or its first name
--- from the left that passes no check
+-- the guard of the longest run over the names; or there is no run; or it has more than 64 comparisons; or its first
+-- name from the left that passes no check
 abbrev pub GivesGuard : List Lexeme → Names → ℕ → ℕ → Result (model.Guard × ℕ) GuardError → Type 0
 GivesGuard ts s width at (Ok r) = (said : Guard) × IsRun ts at r.1 said × (tests_of (guard_tree said) ≤ 64)
     × (guard_check s (guard_tree said) ≡ None) × (plain r.0 ≡ guard_of s width (guard_tree said))

@@ -56,8 +56,10 @@ variable_of_term s t = option_and_then (variable_of s) (name_of_term t)
 -- a number is added to the coefficient of a variable, or to the constant
 abbrev pub with_value : Option Variable → ℤ → Sum → Sum
 with_value None z sum = record sum { constant = sum.constant +ℤ z }
-with_value (Some (Input i)) z sum = record sum { inputs = slice_set sum.inputs i (slice_index_or sum.inputs i (pos 0) +ℤ z) }
-with_value (Some (Memory j)) z sum = record sum { memory = slice_set sum.memory j (slice_index_or sum.memory j (pos 0) +ℤ z) }
+with_value (Some (Input i)) z sum =
+    record sum { inputs = slice_set sum.inputs i (slice_index_or sum.inputs i (pos 0) +ℤ z) }
+with_value (Some (Memory j)) z sum =
+    record sum { memory = slice_set sum.memory j (slice_index_or sum.memory j (pos 0) +ℤ z) }
 
 -- the other sign where the sum is subtracted
 abbrev pub is_negative : Bool → Bool → Bool
@@ -65,7 +67,8 @@ is_negative true negated = if negated then false else true
 is_negative false negated = negated
 
 abbrev pub add_term : Names → Bool → Sum → SignedTerm → Sum
-add_term s subtracted sum t = with_value (variable_of_term s t.term) (signed (is_negative subtracted t.negated) (factor_of t.term)) sum
+add_term s subtracted sum t =
+    with_value (variable_of_term s t.term) (signed (is_negative subtracted t.negated) (factor_of t.term)) sum
 
 -- the terms are added to a sum, or subtracted from it
 abbrev pub collect : Names → Bool → Sum → List SignedTerm → Sum
@@ -81,7 +84,10 @@ form_of width sum = record { inputs = take width sum.inputs; memory = sum.memory
 
 -- the left sum minus the right sum, compared with 0
 abbrev pub comparison_of : Names → ℕ → TestForm → Comparison
-comparison_of s width t = record { form = form_of width (collect s true (collect s false nothing t.left) t.right); relation = t.relation }
+comparison_of s width t = record {
+  form = form_of width (collect s true (collect s false nothing t.left) t.right);
+  relation = t.relation;
+}
 
 -- the value that an action assigns
 abbrev pub value_form_of : Names → ℕ → List SignedTerm → Form
@@ -102,7 +108,10 @@ is_same_variable a b = false
 -- the factors of the terms with this variable, or of those with none, each with its sign, added up
 abbrev pub added_up : Names → Bool → Option Variable → List SignedTerm → ℤ
 added_up s subtracted v [] = pos 0
-added_up s subtracted v (t ∷ terms) = (if is_same_variable (variable_of_term s t.term) v then signed (is_negative subtracted t.negated) (factor_of t.term) else pos 0) +ℤ added_up s subtracted v terms
+added_up s subtracted v (t ∷ terms) =
+    (if is_same_variable (variable_of_term s t.term) v
+        then signed (is_negative subtracted t.negated) (factor_of t.term) else pos 0)
+    +ℤ added_up s subtracted v terms
 
 -- the variable is one of so many inputs or of the four memories, or none
 abbrev pub IsAmong : ℕ → Option Variable → Type 0
@@ -112,8 +121,10 @@ IsAmong inputs (Some (Memory j)) = j < 4
 
 -- in the form of a comparison each number is what its terms add up to, those of the right side with the other sign
 abbrev pub IsAddedUp : Names → ℕ → TestForm → Type 0
-IsAddedUp s width t = (v : Option Variable) → IsAmong width v → number_in v (comparison_of s width t).form ≡ added_up s false v t.left +ℤ added_up s true v t.right
+IsAddedUp s width t = (v : Option Variable) → IsAmong width v
+    → number_in v (comparison_of s width t).form ≡ added_up s false v t.left +ℤ added_up s true v t.right
 
 -- and so is each number in the form of an action's value
 abbrev pub IsValueAddedUp : Names → ℕ → List SignedTerm → Type 0
-IsValueAddedUp s width terms = (v : Option Variable) → IsAmong width v → number_in v (value_form_of s width terms) ≡ added_up s false v terms
+IsValueAddedUp s width terms = (v : Option Variable) → IsAmong width v
+    → number_in v (value_form_of s width terms) ≡ added_up s false v terms

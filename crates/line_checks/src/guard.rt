@@ -49,7 +49,8 @@ pub fn resolved<S: Scope>(
 ) -> Result<Guard, Unresolved>
     requires few { width ≤ 6 }
     requires small { AreSmallTests (written.plain guard.now) }
-    ensures { Resolves plain (guard_check (S.names scope.now) (written.plain guard.now)) (guard_of (S.names scope.now) width (written.plain guard.now)) result }
+    ensures { Resolves plain (guard_check (S.names scope.now) (written.plain guard.now))
+        (guard_of (S.names scope.now) width (written.plain guard.now)) result }
 {
     match guard {
         line_forms::Condition::Test(test) => match comparison(alloc, scope, width, test) {
@@ -84,7 +85,8 @@ pub fn resolved<S: Scope>(
 
 /// How many more comparisons a guard may have of so many, or None where it has more.
 pub fn comparisons_left(guard: &line_forms::Condition, most: usize) -> Option<usize>
-    ensures { MatchOption result (most < written.tests_of (written.plain guard.now)) (λ left. written.tests_of (written.plain guard.now) + left ≡ most) }
+    ensures { MatchOption result (most < written.tests_of (written.plain guard.now))
+        (λ left. written.tests_of (written.plain guard.now) + left ≡ most) }
 {
     match guard {
         line_forms::Condition::Test(_) => most.checked_sub(1),

@@ -10,7 +10,8 @@ use line_forms::{Keyword, Lexeme};
 
 /// Whether a reserved word stands at a place.
 pub fn is_reserved(line: &Written, at: usize, keyword: Keyword) -> bool
-    ensures found { MatchBool result (Has line.now at (lexeme.Reserved keyword)) (Has line.now at (lexeme.Reserved keyword) → ⊥) }
+    ensures found { MatchBool result (Has line.now at (lexeme.Reserved keyword))
+        (Has line.now at (lexeme.Reserved keyword) → ⊥) }
     ensures inside { OnTrue result (at < length line.now) }
 {
     match line.get(at) {
@@ -64,7 +65,8 @@ pub fn is_close(line: &Written, at: usize) -> bool
 
 /// The relation at a place.
 pub fn relation_at(line: &Written, at: usize) -> Option<Relation>
-    ensures found { MatchOption result ((r : _) → Has line.now at (lexeme.Compare r) → ⊥) (λ r. Has line.now at (lexeme.Compare r)) }
+    ensures found { MatchOption result ((r : _) → Has line.now at (lexeme.Compare r) → ⊥)
+        (λ r. Has line.now at (lexeme.Compare r)) }
     ensures inside { IfSome result (λ r. at < length line.now) }
 {
     match line.get(at) {
@@ -87,7 +89,8 @@ pub fn sign_at(line: &Written, at: usize) -> Option<bool>
 
 /// The number of at most 1,000,000 at a place.
 pub fn number_at(line: &Written, at: usize) -> Option<u32>
-    ensures found { MatchOption result ((n : _) → Has line.now at (lexeme.Number n) → ⊥) (λ n. Has line.now at (lexeme.Number n)) }
+    ensures found { MatchOption result ((n : _) → Has line.now at (lexeme.Number n) → ⊥)
+        (λ n. Has line.now at (lexeme.Number n)) }
     ensures inside { IfSome result (λ n. at < length line.now) }
 {
     match line.get(at) {
@@ -98,7 +101,8 @@ pub fn number_at(line: &Written, at: usize) -> Option<u32>
 
 /// The name at a place that is no reserved word.
 pub fn name_at(line: &Written, at: usize) -> Option<Name>
-    ensures found { MatchOption result ((n : _) → Has line.now at (lexeme.Named n) → ⊥) (λ n. Has line.now at (lexeme.Named n)) }
+    ensures found { MatchOption result ((n : _) → Has line.now at (lexeme.Named n) → ⊥)
+        (λ n. Has line.now at (lexeme.Named n)) }
     ensures inside { IfSome result (λ n. at < length line.now) }
 {
     let lexeme = line.get(at)?;

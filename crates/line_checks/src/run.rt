@@ -28,8 +28,8 @@ pub enum GuardError {
     Memory,
 }
 
-/// The number of the token after the longest run of tokens that begins at a token and derives from a guard, whatever its
-/// names and however many its comparisons, given all tokens of the line. It takes no memory.
+/// The number of the token after the longest run of tokens that begins at a token and derives from a guard, whatever
+/// its names and however many its comparisons, given all tokens of the line. It takes no memory.
 pub fn guard_end(line: &[u8], tokens: &[Token], at: usize) -> Option<usize>
     requires { IsRead line.now tokens.now }
     ensures found { GivesEnd (IsGuard (lexemes_of line.now tokens.now)) guard_size at result }
@@ -60,11 +60,11 @@ fn guard_in(
     }
 }
 
-/// The longest guard that begins at a token, over a scope of names and so many inputs, and the number of the token after
-/// it, given all tokens of the line.
+/// The longest guard that begins at a token, over a scope of names and so many inputs, and the number of the token
+/// after it, given all tokens of the line.
 ///
-/// Of the causes the first is told: `Form` where no run of tokens derives from a guard, `Comparisons` where the longest run
-/// has more than 64, and the fault of its first name that has one.
+/// Of the causes the first is told: `Form` where no run of tokens derives from a guard, `Comparisons` where the longest
+/// run has more than 64, and the fault of its first name that has one.
 pub fn guard_at<S: Scope>(
     alloc: Global,
     line: &[u8],

@@ -165,7 +165,8 @@ pub fn comparison<S: Scope>(
 ) -> Result<Comparison, NameFault>
     requires few { width ≤ 6 }
     requires small { IsSmallTest test.now }
-    ensures value { Answers (test_check (S.names scope.now) test.now) (comparison_of (S.names scope.now) width test.now) result }
+    ensures value { Answers (test_check (S.names scope.now) test.now)
+        (comparison_of (S.names scope.now) width test.now) result }
     ensures form { IfOk result (λ c. IsFormOver width (length (S.names scope.now).memories) c.form) }
 {
     let mut sum = empty_sum();
@@ -193,7 +194,8 @@ pub fn value_form<S: Scope>(
     requires few { width ≤ 6 }
     requires short { length terms.now ≤ 512 }
     requires small { AreSmallTerms terms.now }
-    ensures value { Answers (sum_check (S.names scope.now) terms.now) (value_form_of (S.names scope.now) width terms.now) result }
+    ensures value { Answers (sum_check (S.names scope.now) terms.now)
+        (value_form_of (S.names scope.now) width terms.now) result }
     ensures form { IfOk result (λ form. IsFormOver width (length (S.names scope.now).memories) form) }
 {
     let mut sum = empty_sum();

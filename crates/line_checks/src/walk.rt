@@ -17,7 +17,9 @@ use line_forms::{Keyword, SignedTerm, Term};
 /// The name behind `*` that follows the token at a place.
 fn times_name(line: &Written, at: usize) -> Option<Name>
     requires { at < 1024 }
-    ensures found { MatchOption result ((n : _) → Has line.now (at + 1) lexeme.Times → Has line.now (at + 2) (lexeme.Named n) → ⊥) (λ n. Has line.now (at + 1) lexeme.Times × Has line.now (at + 2) (lexeme.Named n)) }
+    ensures found { MatchOption result ((n : _) → Has line.now (at + 1) lexeme.Times
+        → Has line.now (at + 2) (lexeme.Named n) → ⊥)
+        (λ n. Has line.now (at + 1) lexeme.Times × Has line.now (at + 2) (lexeme.Named n)) }
     ensures inside { IfSome result (λ n. at + 2 < length line.now) }
 {
     if !is_times(line, at + 1) {
@@ -29,7 +31,9 @@ fn times_name(line: &Written, at: usize) -> Option<Name>
 /// The number behind `*` that follows the token at a place.
 fn times_number(line: &Written, at: usize) -> Option<u32>
     requires { at < 1024 }
-    ensures found { MatchOption result ((n : _) → Has line.now (at + 1) lexeme.Times → Has line.now (at + 2) (lexeme.Number n) → ⊥) (λ n. Has line.now (at + 1) lexeme.Times × Has line.now (at + 2) (lexeme.Number n)) }
+    ensures found { MatchOption result ((n : _) → Has line.now (at + 1) lexeme.Times
+        → Has line.now (at + 2) (lexeme.Number n) → ⊥)
+        (λ n. Has line.now (at + 1) lexeme.Times × Has line.now (at + 2) (lexeme.Number n)) }
     ensures inside { IfSome result (λ n. at + 2 < length line.now) }
 {
     if !is_times(line, at + 1) {
@@ -41,7 +45,8 @@ fn times_number(line: &Written, at: usize) -> Option<u32>
 /// The longest term from a place on.
 fn term_at(line: &Written, at: usize) -> Option<Term>
     requires short { length line.now ≤ 1024 }
-    ensures found { MatchOption result ((t : _) → IsTerm line.now at t → ⊥) (λ t. IsLongest (IsTerm line.now) term_size at (at + term_size t) t) }
+    ensures found { MatchOption result ((t : _) → IsTerm line.now at t → ⊥)
+        (λ t. IsLongest (IsTerm line.now) term_size at (at + term_size t) t) }
     ensures inside { IfSome result (λ t. at + term_size t ≤ length line.now) }
 {
     if let Some(number) = number_at(line, at) {
@@ -84,7 +89,10 @@ fn led(line: &Written, at: usize) -> (bool, usize)
 /// The longest term behind a sign at a place.
 fn further_term(line: &Written, at: usize) -> Option<SignedTerm>
     requires short { length line.now ≤ 1024 }
-    ensures found { MatchOption result ((t : SignedTerm) → Has line.now at (sign_of t.negated) → IsTerm line.now (at + 1) t.term → ⊥) (λ (t : SignedTerm). Has line.now at (sign_of t.negated) × IsLongest (IsTerm line.now) term_size (at + 1) (at + 1 + term_size t.term) t.term) }
+    ensures found { MatchOption result ((t : SignedTerm) → Has line.now at (sign_of t.negated)
+        → IsTerm line.now (at + 1) t.term → ⊥)
+        (λ (t : SignedTerm). Has line.now at (sign_of t.negated)
+        × IsLongest (IsTerm line.now) term_size (at + 1) (at + 1 + term_size t.term) t.term) }
     ensures inside { IfSome result (λ (t : SignedTerm). at + 1 + term_size t.term ≤ length line.now) }
 {
     let Some(negated) = sign_at(line, at) else {

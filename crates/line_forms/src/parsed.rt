@@ -62,7 +62,8 @@ pub fn look<F: LineForm>(alloc: Global, line: &Line) -> Result<ParsedLine<F>, Al
 
 /// A line is one thing at most.
 pub fn one_seen<F: LineForm>()
-    ensures { (line : List ℕ) (a b : Result (Option (ParsedLine F)) TokenError) → IsView (IsSeen F.Is) line a → IsView (IsSeen F.Is) line b → a ≡ b }
+    ensures { (line : List ℕ) (a b : Result (Option (ParsedLine F)) TokenError)
+        → IsView (IsSeen F.Is) line a → IsView (IsSeen F.Is) line b → a ≡ b }
 {
     F::one();
     one_tokenizing();
@@ -70,12 +71,14 @@ pub fn one_seen<F: LineForm>()
 
 /// It cannot be that a line is nothing.
 pub fn some_seen<F: LineForm>()
-    ensures { (line : List ℕ) → ((a : Result (Option (ParsedLine F)) TokenError) → IsView (IsSeen F.Is) line a → ⊥) → ⊥ }
+    ensures { (line : List ℕ)
+        → ((a : Result (Option (ParsedLine F)) TokenError) → IsView (IsSeen F.Is) line a → ⊥) → ⊥ }
 {}
 
 /// What a line says is as small as the limits on its tokens leave it.
 pub fn small_seen<F: LineForm>()
-    ensures { (line : List ℕ) (seen : ParsedLine F) → IsView (IsSeen F.Is) line (Ok (Some seen)) → ForSome seen.form F.Small }
+    ensures { (line : List ℕ) (seen : ParsedLine F)
+        → IsView (IsSeen F.Is) line (Ok (Some seen)) → ForSome seen.form F.Small }
 {
     F::small();
 }
