@@ -1,3 +1,5 @@
-pub mod Arms
-pub mod One
 pub mod Printing
+pub mod One
+pub mod Arms
+pub mod Meaning
+pub mod Piping

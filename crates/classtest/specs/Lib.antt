@@ -1,3 +1,3 @@
-pub mod Command
 pub mod Play
 pub mod Ends
+pub mod Means

@@ -1,11 +1,15 @@
-ghost use Rattle.std.specs.Prelude.{◌≡◌, List, ℕ, Err};
+ghost use Rattle.std.specs.Prelude.{◌≡◌, List, ℕ, Ok, Err, true};
+ghost use Rattle.command_words.specs.Command.{IsCommand, command_of};
 ghost use Rattle.command_stages.specs.declared.stop.Source.{Source};
 ghost use Rattle.command_stages.specs.declared.stop.Stop.TheVariants.{Unread};
 ghost use Rattle.command_stages.specs.Stage.{Given};
-ghost use Rattle.command_stages.specs.Serve.{IsOne, answer};
+ghost use Rattle.command_stages.specs.Serve.{IsOne, IsRun, Run, answer};
 ghost use Rattle.classtest.specs.Ends.{Answers, IsNamed};
+ghost use Rattle.classtest.specs.Means.{PutsMeaning};
 
 use chart_syntax::{chart_or_refusal, word_or_refusal};
+use cut_syntax::cuts_or_refusal;
+use guard_atoms::members_act_alike;
 
 /// There is at most one answer to words and held texts, and a command reads none but the texts that its words name.
 /// This is a law; it does nothing.
@@ -16,4 +20,13 @@ pub fn one_answer()
 {
     chart_or_refusal();
     word_or_refusal();
+    cuts_or_refusal();
+}
+
+/// What the text of a command shows, where it is put whole. This is a law; it does nothing.
+pub fn texts_show()
+    ensures { (run : Run) → IsRun Answers (IsCommand run.words) run (Ok true)
+        → PutsMeaning (command_of run.words) run }
+{
+    members_act_alike();
 }

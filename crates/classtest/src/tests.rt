@@ -3,9 +3,11 @@ ghost use Rattle.std.specs.Prelude.{◌<◌, All, IfOk};
 ghost use Rattle.test_world.specs.Count.{greatest_count};
 
 mod answers;
+mod classes;
 mod edges;
 mod failing;
 mod order;
+mod suites;
 
 use crate::top::classtest;
 use std::alloc::{AllocError, Global};

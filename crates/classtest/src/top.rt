@@ -1,12 +1,15 @@
 ghost use Rattle.std.specs.Prelude.{◌≡◌, map, string_bytes};
 ghost use Rattle.command_stages.specs.Serve.{Run, IsRun, IsServed};
-ghost use Rattle.classtest.specs.Command.{IsCommand};
+ghost use Rattle.command_words.specs.Command.{IsCommand, command_of};
 ghost use Rattle.classtest.specs.Ends.{Answers};
+ghost use Rattle.classtest.specs.Means.{PutsMeaning};
 
-use crate::command::{Command, command_of};
-use crate::laws::one_answer;
+use crate::classes::classes;
+use crate::laws::{one_answer, texts_show};
 use crate::play::play;
+use crate::suite::suite;
 use command_stages::{Stop, finish, report};
+use command_words::{Command, command_of};
 use std::alloc::Global;
 use test_world::{Shelf, Sink};
 
@@ -27,13 +30,18 @@ fn serve<F: Shelf, K: Sink>(
     match command_of(words) {
         None => Err(Stop::NoCommand),
         Some(Command::Play) => finish(play(alloc, words, shelf), out),
+        Some(Command::Classes { cuts }) => finish(classes(alloc, words, cuts, shelf), out),
+        Some(Command::Suite { bound, cuts }) => {
+            finish(suite(alloc, words, bound, cuts, shelf), out)
+        }
     }
 }
 
 /// All that the program does: `words` are the arguments after the program's name, and the answer is its status.
 ///
 /// 0: the whole text was put to `out`. Otherwise one line was put to `err`, and the status is 2 for words that are no
-/// command, 3 for a text that has no reading, 4 for a text that passes a limit or is too long, 5 for a failed read or
+/// command, 3 for a text that has no reading and for a chart whose assumptions no vector meets, 4 for a limit that is
+/// passed, a text that is too long and a bound below the number of states, 5 for a failed read or
 /// write, and 6 for want of memory.
 pub fn classtest<F: Shelf, K: Sink>(
     alloc: Global,
@@ -42,7 +50,7 @@ pub fn classtest<F: Shelf, K: Sink>(
     out: &mut K,
     err: &mut K,
 ) -> u8
-    ensures { let run : Run = record {
+    ensures served { let run : Run = record {
       words = map string_bytes words.now;
       shelf = F.state shelf.old;
       shelf_after = F.state shelf.new;
@@ -54,8 +62,17 @@ pub fn classtest<F: Shelf, K: Sink>(
       err_after = K.state err.new;
       status = result;
     }) }
+    // What the text of a command shows where the status is 0.
+    ensures means { let run : Run = record {
+      words = map string_bytes words.now;
+      shelf = F.state shelf.old;
+      shelf_after = F.state shelf.new;
+      out = K.state out.old;
+      out_after = K.state out.new;
+    } in result ≡ 0 → PutsMeaning (command_of run.words) run }
 {
     one_answer();
+    texts_show();
     match serve(alloc, words, shelf, out) {
         Ok(true) => 0,
         Ok(false) => 1,

@@ -3,3 +3,5 @@ pub mod Proper
 pub mod Serving
 pub mod Readers
 pub mod Finishing
+pub mod ProperBy
+pub mod Lines

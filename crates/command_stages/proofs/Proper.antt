@@ -5,7 +5,7 @@ use Rattle.chart_syntax.specs.declared.error.Refusal as text_error
 use Rattle.chart_syntax.specs.declared.error.Refusal.TheVariants as met
 use Rattle.test_world.specs.Shelf.{Held, Holds, HoldsMoreThan}
 use Rattle.command_stages.specs.declared.stop.Refusal.{Refusal}
-use Rattle.command_stages.specs.declared.stop.Refusal.TheVariants.{Fault, Limit, TooLong}
+use Rattle.command_stages.specs.declared.stop.Refusal.TheVariants.{Fault, Limit, TooLong, NoInput, Beyond, BoundBelow}
 use Rattle.command_stages.specs.declared.stop.Source.{Source}
 use Rattle.command_stages.specs.declared.stop.Source.TheVariants.{Word, Replies}
 use Rattle.command_stages.specs.declared.stop.Stop.{Stop}
@@ -21,7 +21,7 @@ err_same : {A B E : Type 0} (x y : E) → (let o : Result A E = Err x in o) ≡ 
 err_same x y e = let s : x ≡ y = cc in ap Err s
 
 -- the value of the first stage, however it was reached
-same_value : {A : Type 0} (reads : Source → Type 0) (first : Stage A) → IsProper reads first → (given : Given) → IsSome given.held → (s t : List Source) (a b : A) → first given s (Ok a) → first given t (Ok b) → b ≡ a
+pub same_value : {A : Type 0} (reads : Source → Type 0) (first : Stage A) → IsProper reads first → (given : Given) → IsSome given.held → (s t : List Source) (a b : A) → first given s (Ok a) → first given t (Ok b) → b ≡ a
 same_value reads first one given told s t a b p q = ok_same b a (one.one given told t s (Ok b) (Ok a) tt tt q p)
 
 one_then : {A B : Type 0} (reads : Source → Type 0) (first : Stage A) (next : A → Stage B) → IsProper reads first → ((a : A) → IsProper reads (next a)) → (given : Given) → IsSome given.held → (s t : List Source) (x y : Result B Stop) → IsDetermined x → IsDetermined y → Then first next given s x → Then first next given t y → x ≡ y
@@ -152,6 +152,9 @@ unfolding Reading told_as
 told number reads refuses given s (Refused (Fault name line kind)) d h = record { line = line; what = met.Fault kind; refused = h.2; is = ap (λ n. Refused (Fault n line kind)) h.1 }
 told number reads refuses given s (Refused (Limit name line which)) d h = record { line = line; what = met.Limit which; refused = h.2; is = ap (λ n. Refused (Limit n line which)) h.1 }
 told number reads refuses given s (Refused (TooLong name)) d h = let e = h.1 in absurd (cc)
+told number reads refuses given s (Refused (NoInput name)) d h = let e = h.1 in absurd (cc)
+told number reads refuses given s (Refused (Beyond quantity)) d h = let e = h.1 in absurd (cc)
+told number reads refuses given s (Refused (BoundBelow bound states)) d h = let e = h.1 in absurd (cc)
 told number reads refuses given s NoCommand d h = let e = h.1 in absurd (cc)
 told number reads refuses given s (Unread source) d h = absurd d
 told number reads refuses given s WriteFault d h = absurd d

@@ -1,20 +1,19 @@
 -- The statuses of stops and their lines on `err`.
-use Rattle.std.specs.Prelude.{ℕ, Bool, true, false, List, [], ◌∷◌, ◌++◌, map, codes, Option, Some, None, slice_get, unwrap_or, Result, Ok, Err}
+use Rattle.std.specs.Prelude.{ℕ, Bool, true, false, List, [], ◌∷◌, ◌++◌, map, codes, Option, Some, None, Result, Ok, Err}
 use Rattle.std.specs.Fmt.{decimal}
 use Rattle.chart_syntax.specs.declared.error.Kind.{Kind}
 use Rattle.chart_syntax.specs.declared.error.Kind.TheVariants as kind
 use Rattle.chart_syntax.specs.declared.error.Which.{Which}
 use Rattle.chart_syntax.specs.declared.error.Which.TheVariants as which
 use Rattle.command_stages.specs.declared.stop.Refusal.{Refusal}
-use Rattle.command_stages.specs.declared.stop.Refusal.TheVariants.{Fault, Limit, TooLong}
+pub use Rattle.command_words.specs.Command.{word_at}
+use Rattle.command_stages.specs.declared.stop.Refusal.TheVariants.{Fault, Limit, TooLong, NoInput, Beyond, BoundBelow}
+use Rattle.command_stages.specs.declared.stop.Quantity.{Quantity}
+use Rattle.command_stages.specs.declared.stop.Quantity.TheVariants as quantity
 use Rattle.command_stages.specs.declared.stop.Source.{Source}
 use Rattle.command_stages.specs.declared.stop.Source.TheVariants.{Word, Replies}
 use Rattle.command_stages.specs.declared.stop.Stop.{Stop}
 use Rattle.command_stages.specs.declared.stop.Stop.TheVariants.{NoCommand, Refused, Unread, WriteFault, NoMemory}
-
--- the word with this number, counted from 0
-abbrev pub word_at : List (List ℕ) → ℕ → List ℕ
-word_at words number = unwrap_or (slice_get words number) []
 
 -- the name of what is read from
 abbrev pub name_of : List (List ℕ) → Source → List ℕ
@@ -26,6 +25,9 @@ abbrev pub status_of_refusal : Refusal → ℕ
 status_of_refusal (Fault name line k) = 3
 status_of_refusal (Limit name line w) = 4
 status_of_refusal (TooLong name) = 4
+status_of_refusal (NoInput name) = 3
+status_of_refusal (Beyond q) = 4
+status_of_refusal (BoundBelow bound states) = 4
 
 -- the status of a call that stops so
 abbrev pub status_of_stop : Stop → ℕ
@@ -47,6 +49,7 @@ source_of (Unread source) = Some source
 source_of (Refused (Fault name line k)) = Some (Word name)
 source_of (Refused (Limit name line w)) = Some (Word name)
 source_of (Refused (TooLong name)) = Some (Word name)
+source_of (Refused (NoInput name)) = Some (Word name)
 source_of other = None
 
 -- the line of the text that it names
@@ -89,11 +92,21 @@ limit_word which.Depth = codes "depth"
 limit_word which.Transitions = codes "transitions"
 limit_word which.Rows = codes "rows"
 
+-- the word for a quantity
+abbrev pub quantity_word : Quantity → List ℕ
+quantity_word quantity.Coefficient = codes "coefficient"
+quantity_word quantity.Atoms = codes "atoms"
+quantity_word quantity.Classes = codes "classes"
+quantity_word quantity.Configurations = codes "configurations"
+quantity_word quantity.Steps = codes "steps"
+
 -- what stands before the word
 abbrev pub before_of : Stop → List ℕ
 before_of (Refused (Limit name line w)) = codes ": limit "
 before_of (Refused (TooLong name)) = codes ": limit "
 before_of (Refused (Fault name line k)) = codes ": "
+before_of (Refused (NoInput name)) = codes ": "
+before_of (Refused (Beyond q)) = codes "limit "
 before_of (Unread source) = codes ": "
 before_of other = []
 
@@ -103,9 +116,21 @@ word_of NoCommand = codes "no such command"
 word_of (Refused (Fault name line k)) = kind_word k
 word_of (Refused (Limit name line w)) = limit_word w
 word_of (Refused (TooLong name)) = codes "bytes"
+word_of (Refused (NoInput name)) = codes "no input"
+word_of (Refused (Beyond q)) = quantity_word q
+word_of (Refused (BoundBelow bound states)) = codes "bound "
 word_of (Unread source) = codes "read fault"
 word_of WriteFault = codes "write fault"
 word_of NoMemory = codes "no memory"
+
+-- the bound and the number of states that stand after the word
+abbrev pub bounds_of : Stop → Option (ℕ × ℕ)
+bounds_of (Refused (BoundBelow bound states)) = Some (bound, states)
+bounds_of other = None
+
+abbrev pub below : Option (ℕ × ℕ) → List ℕ
+below None = []
+below (Some (bound, states)) = decimal bound ++ codes " below " ++ decimal states
 
 -- the name that stands on the line, none where it names nothing
 abbrev pub named : List (List ℕ) → Option Source → List ℕ
@@ -119,7 +144,7 @@ at_line (Some line) = codes ":" ++ decimal line
 
 -- what is said after the name
 abbrev pub said : Stop → List ℕ
-said stop = at_line (line_of_stop stop) ++ before_of stop ++ word_of stop ++ codes "\n"
+said stop = at_line (line_of_stop stop) ++ before_of stop ++ word_of stop ++ below (bounds_of stop) ++ codes "\n"
 
 -- the line on `err`, for the words of the call
 abbrev pub err_line : List (List ℕ) → Stop → List ℕ

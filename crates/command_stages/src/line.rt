@@ -1,8 +1,7 @@
 ghost use Rattle.std.specs.Prelude.{◌≡◌, ◌≤◌, ◌+◌, ◌*◌, [], ◌∷◌, ◌++◌, length};
-ghost use Rattle.std.specs.List.{flat_map};
 ghost use Rattle.std.specs.Fmt.{decimal, signed_decimal};
-ghost use Rattle.command_stages.specs.Report.{said, at_line};
-ghost use Rattle.command_stages.specs.Numbers.{spaced, line_of};
+ghost use Rattle.command_stages.specs.Report.{said, at_line, below};
+ghost use Rattle.command_stages.specs.Numbers.{after_spaces, spaced, line_of};
 
 use crate::stop::Stop;
 use itoa::Buffer;
@@ -72,9 +71,10 @@ impl Line {
         self.push(buffer.format(number).as_bytes());
     }
 
-    fn push_more(&mut self, numbers: &[i64])
+    /// Adds numbers, each with a space before it.
+    pub fn push_numbers(&mut self, numbers: &[i64])
         requires { length self.old + 21 * length numbers.now ≤ 320 }
-        ensures bytes { self.new ≡ self.old ++ flat_map (λ z. 32 ∷ signed_decimal z) numbers.now }
+        ensures bytes { self.new ≡ self.old ++ after_spaces numbers.now }
         ensures short { length self.new ≤ length self.old + 21 * length numbers.now }
     {
         for number in numbers {
@@ -103,6 +103,18 @@ impl Line {
         }
     }
 
+    fn push_below(&mut self, bounds: Option<(usize, usize)>)
+        requires { length self.old + 50 ≤ 320 }
+        ensures bytes { self.new ≡ self.old ++ below bounds }
+        ensures short { length self.new ≤ length self.old + 50 }
+    {
+        if let Some((bound, states)) = bounds {
+            self.push_decimal(bound);
+            self.push(b" below ");
+            self.push_decimal(states);
+        }
+    }
+
     /// Makes what the line on `err` says after the name.
     pub fn set_said(&mut self, stop: Stop)
         ensures { self.new ≡ said stop }
@@ -111,6 +123,7 @@ impl Line {
         self.push_place(stop.line());
         self.push(stop.before());
         self.push(stop.word());
+        self.push_below(stop.bounds());
         self.push(LINE_FEED);
     }
 
@@ -122,7 +135,7 @@ impl Line {
         self.clear();
         if numbers.len() > 0 {
             self.push_number(numbers[0]);
-            self.push_more(&numbers[1..]);
+            self.push_numbers(&numbers[1..]);
         }
         self.push(LINE_FEED);
     }

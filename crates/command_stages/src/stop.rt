@@ -1,5 +1,5 @@
 ghost use Rattle.std.specs.Prelude.{◌≡◌, ◌≤◌, length};
-ghost use Rattle.command_stages.specs.Report.{status_of_refusal, status_of_stop, source_of, line_of_stop, before_of, word_of, kind_word, limit_word};
+ghost use Rattle.command_stages.specs.Report.{status_of_refusal, status_of_stop, source_of, line_of_stop, before_of, word_of, bounds_of, kind_word, limit_word, quantity_word};
 
 use chart_syntax::{Kind, Which};
 
@@ -23,6 +23,32 @@ pub enum Refusal {
     TooLong {
         name: usize,
     },
+    /// No input vector is as the chart's assumptions say.
+    NoInput {
+        name: usize,
+    },
+    /// There is more of something than its limit.
+    Beyond(Quantity),
+    /// The bound is below the chart's number of states.
+    BoundBelow {
+        bound: usize,
+        states: usize,
+    },
+}
+
+/// What has a limit that is passed by no line of a text.
+#[derive(Clone, Copy, PartialEq, Eq, Debug)]
+pub enum Quantity {
+    /// The coefficients of inputs, in absolute value.
+    Coefficient,
+    /// The atoms.
+    Atoms,
+    /// The classes.
+    Classes,
+    /// The configurations that are reached.
+    Configurations,
+    /// The product of steps.
+    Steps,
 }
 
 /// What is read from.
@@ -55,8 +81,9 @@ impl Refusal {
         ensures { result ≡ status_of_refusal self }
     {
         match self {
-            Refusal::Fault { .. } => 3,
+            Refusal::Fault { .. } | Refusal::NoInput { .. } => 3,
             Refusal::Limit { .. } | Refusal::TooLong { .. } => 4,
+            Refusal::Beyond(_) | Refusal::BoundBelow { .. } => 4,
         }
     }
 }
@@ -83,6 +110,7 @@ impl Stop {
             Stop::Refused(Refusal::Fault { name, .. }) => Some(Source::Word(name)),
             Stop::Refused(Refusal::Limit { name, .. }) => Some(Source::Word(name)),
             Stop::Refused(Refusal::TooLong { name }) => Some(Source::Word(name)),
+            Stop::Refused(Refusal::NoInput { name }) => Some(Source::Word(name)),
             _ => None,
         }
     }
@@ -105,7 +133,9 @@ impl Stop {
     {
         match self {
             Stop::Refused(Refusal::Limit { .. } | Refusal::TooLong { .. }) => b": limit ",
-            Stop::Refused(Refusal::Fault { .. }) | Stop::Unread(_) => b": ",
+            Stop::Refused(Refusal::Fault { .. } | Refusal::NoInput { .. }) => b": ",
+            Stop::Refused(Refusal::Beyond(_)) => b"limit ",
+            Stop::Unread(_) => b": ",
             _ => b"",
         }
     }
@@ -120,10 +150,37 @@ impl Stop {
             Stop::Refused(Refusal::Fault { kind, .. }) => kind_word(kind),
             Stop::Refused(Refusal::Limit { which, .. }) => limit_word(which),
             Stop::Refused(Refusal::TooLong { .. }) => b"bytes",
+            Stop::Refused(Refusal::NoInput { .. }) => b"no input",
+            Stop::Refused(Refusal::Beyond(quantity)) => quantity_word(quantity),
+            Stop::Refused(Refusal::BoundBelow { .. }) => b"bound ",
             Stop::Unread(_) => b"read fault",
             Stop::WriteFault => b"write fault",
             Stop::NoMemory => b"no memory",
         }
+    }
+
+    /// The bound and the number of states that stand after the word.
+    pub fn bounds(self) -> Option<(usize, usize)>
+        ensures { result ≡ bounds_of self }
+    {
+        match self {
+            Stop::Refused(Refusal::BoundBelow { bound, states }) => Some((bound, states)),
+            _ => None,
+        }
+    }
+}
+
+/// The word for a quantity.
+pub fn quantity_word(quantity: Quantity) -> &'static [u8]
+    ensures word { result.now ≡ quantity_word quantity }
+    ensures short { length result.now ≤ 20 }
+{
+    match quantity {
+        Quantity::Coefficient => b"coefficient",
+        Quantity::Atoms => b"atoms",
+        Quantity::Classes => b"classes",
+        Quantity::Configurations => b"configurations",
+        Quantity::Steps => b"steps",
     }
 }
 

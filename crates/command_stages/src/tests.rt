@@ -1,5 +1,6 @@
 //! The words of the lines on `err`.
-use crate::stop::{kind_word, limit_word};
+use crate::stop::{kind_word, limit_word, quantity_word};
+use crate::{Line, Quantity, Refusal, Stop};
 use chart_syntax::{Kind, Which};
 
 #[test]
@@ -41,5 +42,37 @@ fn words_of_kinds_and_limits(rt: HostRuntime) {
     ];
     for (which, word) in limits {
         assert_eq!(rt; limit_word(which), word.as_bytes());
+    }
+    let quantities = [
+        (Quantity::Coefficient, "coefficient"),
+        (Quantity::Atoms, "atoms"),
+        (Quantity::Classes, "classes"),
+        (Quantity::Configurations, "configurations"),
+        (Quantity::Steps, "steps"),
+    ];
+    for (quantity, word) in quantities {
+        assert_eq!(rt; quantity_word(quantity), word.as_bytes());
+    }
+}
+
+#[test]
+fn lines_of_refusals(rt: HostRuntime) {
+    let refusals = [
+        (Refusal::NoInput { name: 1 }, ": no input\n", 3),
+        (Refusal::Beyond(Quantity::Steps), "limit steps\n", 4),
+        (
+            Refusal::BoundBelow {
+                bound: 1,
+                states: 20,
+            },
+            "bound 1 below 20\n",
+            4,
+        ),
+    ];
+    let mut line = Line::new();
+    for (refusal, said, status) in refusals {
+        line.set_said(Stop::Refused(refusal));
+        assert_eq!(rt; line.bytes(), said.as_bytes());
+        assert_eq!(rt; refusal.status(), status);
     }
 }

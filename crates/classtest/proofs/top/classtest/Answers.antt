@@ -1,5 +1,12 @@
-use Rattle.command_stages.proofs.Serving.{served_stop}
+use Rattle.std.proofs.Common.{sym, ◌∙◌}
+use Rattle.command_stages.proofs.Serving.{served_stop, no_zero}
 use Rattle.classtest.proofs.top.classtest.Goals as goal
 
-pub returns-in-Err : goal.returns-in-Err
-returns-in-Err g c = served_stop c.one_answer.ensures.one c.in-Err.ensures c.status.ensures c.report.ensures
+pub returns-in-Err-clause-served : goal.returns-in-Err-clause-served
+returns-in-Err-clause-served g c = served_stop c.one_answer.ensures.one c.in-Err.ensures c.status.ensures c.report.ensures
+
+pub returns-in-Err-clause-means : goal.returns-in-Err-clause-means
+returns-in-Err-clause-means g c = λ zero. absurd (no_zero c.in-Err.stop (sym c.status.ensures ∙ zero))
+
+pub returns-in-Ok-true-clause-means : goal.returns-in-Ok-true-clause-means
+returns-in-Ok-true-clause-means g c = λ zero. c.texts_show.ensures _ (rw c.in-Ok-true.field-0-test at c.in-Ok-true.ensures)

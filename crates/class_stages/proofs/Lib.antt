@@ -1,0 +1,4 @@
+pub mod Dividing
+pub mod Proper
+pub mod Cutting
+pub mod Putting

@@ -1,0 +1,4 @@
+pub mod Classes
+pub mod Cutting
+pub mod Text
+pub mod inside

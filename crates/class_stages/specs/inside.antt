@@ -1,0 +1,2 @@
+-- What functions of this crate promise one another.
+pub mod Stops

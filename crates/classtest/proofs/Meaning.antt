@@ -1,0 +1,104 @@
+-- What the text of a command shows, from the answer that is carried out.
+use Rattle.std.proofs.Common.{◌≡◌, ℕ, ◌≤◌, Bool, true, false, List, [], map, Option, Some, None, Result, Ok, Err, refl, sym, ◌∙◌, ap, subst, arith, inl, inr}
+use Rattle.test_world.specs.Sink.{Grows}
+use Rattle.lin_form.specs.declared.form.Comparison.{Comparison}
+use Rattle.lin_form.specs.declared.signature.Signature.{Signature}
+use Rattle.lin_form.specs.Signature.{ranges_of}
+use Rattle.input_classes.specs.Partition.{Partition, Covers}
+use Rattle.input_classes.specs.VectorSet.{Box}
+use Rattle.input_classes.proofs.CallerLemmas.{partition-covers}
+use Rattle.subject.specs.Alike.{MembersActAlike}
+use Rattle.subject.specs.Domain.{Complete, Inside, box}
+use Rattle.subject.specs.FiniteMap.{plan_of_map}
+use Rattle.subject.specs.Shape.{HasShape}
+use Rattle.subject.specs.Suite.{SuiteParts, tests_of}
+use Rattle.subject.proofs.CallerLemmas.{by_classes, more_states, shape_decides}
+use Rattle.chart_model.specs.declared.chart.Chart.{Chart}
+use Rattle.chart_meaning.specs.Plan.{plan_of_chart}
+use Rattle.guard_atoms.specs.Atoms.{atoms_in}
+use Rattle.lin_form.specs.Atom.{inequality_of}
+use Rattle.input_classes.specs.VectorSet.{VectorSet}
+use Rattle.command_words.specs.declared.command.Command.{Command}
+use Rattle.command_words.specs.declared.command.Command.TheVariants.{Play, Classes, Suite}
+use Rattle.command_words.specs.Command.{command_of, IsCommand}
+use Rattle.command_stages.specs.declared.stop.Source.{Source}
+use Rattle.command_stages.specs.declared.stop.Stop.{Stop}
+use Rattle.command_stages.specs.Stage.{Given, Stage, Then, Is, TextAt, Reading, Unless, Printed}
+use Rattle.command_stages.specs.Serve.{Run, given_of, Ends, IsRun}
+use Rattle.command_stages.specs.Texts.{ChartAt}
+use Rattle.class_stages.specs.Classes.{IsChartPartition, ClassesOver}
+use Rattle.class_stages.specs.Cutting.{CutsAt}
+use Rattle.class_stages.specs.Text.{classes_text}
+use Rattle.suite_stages.specs.Suites.{SuiteOver}
+use Rattle.suite_model.specs.Text.{suite_text}
+use Rattle.classtest.specs.Ends.{ClassesEnds, SuiteEnds, AnswersCommand, Answers}
+use Rattle.classtest.specs.Means.{IsChartAt, AreCutsAt, AreInputsOf, AreClassesOf, IsSuiteOf, Means, PutsMeaning}
+
+chart_at : (given : Given) (sources : List Source) (chart : Chart) → ChartAt 1 given sources (Ok chart) → IsChartAt 1 given chart
+unfolding Then TextAt Reading
+chart_at given sources chart (text, u, v, e, p, q) = (text, p.1, q.1)
+
+cuts_at : (named : Bool) (number : ℕ) (signature : Signature) (given : Given) (sources : List Source) (cuts : List Comparison) → CutsAt named number signature given sources (Ok cuts) → AreCutsAt named number signature given cuts
+unfolding Then TextAt Reading Is
+cuts_at false number signature given sources cuts p = p.1
+cuts_at true number signature given sources cuts (text, u, v, e, p, q) = (text, p.1, q.1)
+
+classes_over : (chart : Chart) (cuts : List Comparison) (given : Given) (sources : List Source) (r : Partition) → ClassesOver 1 chart cuts given sources (Ok r) → IsChartPartition chart cuts r
+unfolding Then Unless Is
+classes_over chart cuts given sources r (a, b, c, d, e, (f, g, h, i, j, (k, l, m, n, o, (p, q, s, t, u, v)))) = v.1
+
+suite_over : (bound : ℕ) (chart : Chart) (r : Partition) (given : Given) (sources : List Source) (s : SuiteParts) → SuiteOver bound chart r given sources (Ok s) → HasShape (plan_of_chart chart) r bound s
+unfolding Then Unless Is
+suite_over bound chart r given sources suite (a, b, c, d, e, (f, g, h, i, j, (k, l, m, n, o, (p, q, s, t, u, v)))) = v.1
+
+text_of : (a b : List ℕ) (passes : Bool) → (let p : Printed = record { passes = passes; text = a } in p) ≡ record { passes = true; text = b } → a ≡ b
+text_of a b passes e = ap (λ (p : Printed). p.text) e
+
+-- the members of each class act alike in the chart's plan
+abbrev pub ActAlike : Type 0
+ActAlike = (chart : Chart) (cuts : List Comparison) (r : Partition) (s : VectorSet) → map inequality_of r.atoms ≡ atoms_in chart cuts → MembersActAlike s r (plan_of_chart chart)
+
+alike : ActAlike → (chart : Chart) (cuts : List Comparison) (r : Partition) → IsChartPartition chart cuts r → MembersActAlike (box (plan_of_chart chart) r) r (plan_of_chart chart)
+alike law chart cuts r h = law chart cuts r (box (plan_of_chart chart) r) h.atoms
+
+covers : (chart : Chart) (cuts : List Comparison) (r : Partition) → IsChartPartition chart cuts r → Covers (box (plan_of_chart chart) r) r
+covers chart cuts r h = subst (λ ranges. Covers (Box ranges r.assumed) r) h.ranges (partition-covers r h.exact)
+
+are_classes : ActAlike → (named : Bool) (given : Given) (sources : List Source) (text : List ℕ) → ClassesEnds named given sources (Ok (record { passes = true; text = text })) → AreClassesOf named given text
+unfolding Then Is
+are_classes law named given sources text (chart, a, b, c, is_chart, (cuts, d, e, f, are_cuts, (r, g, h, i, are, printed))) =
+    let partition = classes_over chart cuts given g r are in
+    record {
+      inputs = record { chart = chart; cuts = cuts; partition = r; is_chart = chart_at given a chart is_chart; are_cuts = cuts_at named 2 chart.signature given d cuts are_cuts; is_partition = partition };
+      same_text = text_of text (classes_text r) true printed.1;
+      alike = alike law chart cuts r partition;
+    }
+
+is_suite : ActAlike → (bound : ℕ) (named : Bool) (given : Given) (sources : List Source) (text : List ℕ) → SuiteEnds bound named given sources (Ok (record { passes = true; text = text })) → IsSuiteOf bound named given text
+unfolding Then Is
+is_suite law bound named given sources text (chart, a, b, c, is_chart, (cuts, d, e, f, are_cuts, (r, g, h, i, are, (suite, j, k, l, made, printed)))) =
+    let m = plan_of_chart chart in
+    let partition = classes_over chart cuts given g r are in
+    let shape = suite_over bound chart r given j suite made in
+    let covered = covers chart cuts r partition in
+    record {
+      inputs = record { chart = chart; cuts = cuts; partition = r; is_chart = chart_at given a chart is_chart; are_cuts = cuts_at named 3 chart.signature given d cuts are_cuts; is_partition = partition };
+      suite = suite;
+      same_text = text_of text (suite_text suite) true printed.1;
+      shape = shape;
+      complete = λ f inside. shape_decides m r bound covered suite (plan_of_map f) inside shape;
+      inside = record {
+        fits = record { names = refl; ranges = refl; outputs = refl };
+        states = more_states m (box m r) suite.states bound shape.suits.rank.most shape.suits.few;
+        classes = by_classes (box m r) r m covered (alike law chart cuts r partition);
+      };
+    }
+
+shown : ActAlike → (o : Option Command) (given : Given) (sources : List Source) (text : List ℕ) → AnswersCommand o given sources (record { put = text; ends = Ok true }) → Means o given text
+shown law None given sources text h = tt
+shown law (Some Play) given sources text h = tt
+shown law (Some (Classes named)) given sources text h = are_classes law named given sources text h
+shown law (Some (Suite bound named)) given sources text h = is_suite law bound named given sources text h
+
+pub meant : ActAlike → (run : Run) → IsRun Answers (IsCommand run.words) run (Ok true) → PutsMeaning (command_of run.words) run
+meant law run h = let (text, is_for, put) = h.ends in (text, put, shown law (command_of run.words) (given_of run) is_for.0 text is_for.1)

@@ -1,0 +1,24 @@
+-- The suite of a chart's plan, a partition and a bound, and why there is none.
+use Rattle.std.specs.Prelude.{ℕ, ◌<◌, length}
+use Rattle.input_classes.specs.Partition.{Partition}
+use Rattle.subject.specs.Alike.{HasRank}
+use Rattle.subject.specs.Domain.{box}
+use Rattle.subject.specs.Shape.{HasShape}
+use Rattle.subject.specs.Suite.{SuiteParts}
+use Rattle.chart_model.specs.declared.chart.Chart.{Chart}
+use Rattle.chart_meaning.specs.Plan.{plan_of_chart}
+use Rattle.suite_build.specs.Steps.{steps}
+use Rattle.suite_making.specs.Making.{HasTooManyStates}
+use Rattle.command_stages.specs.declared.stop.Quantity.TheVariants.{Configurations, Steps}
+use Rattle.command_stages.specs.declared.stop.Refusal.TheVariants.{Beyond, BoundBelow}
+use Rattle.command_stages.specs.Stage.{Stage, Then, Is, Unless}
+
+-- at most 1,024 configurations are reached on the witnesses, the bound is at least the rank, there are at most
+-- 20,000,000 steps, and then it is the suite of the W-method
+abbrev pub SuiteOver : ℕ → Chart → Partition → Stage SuiteParts
+SuiteOver bound chart r = let model = plan_of_chart chart in
+    Then (Unless (HasTooManyStates model r) (Beyond Configurations)) (λ _.
+    Then (Is (HasRank (box model r) model)) (λ states.
+    Then (Unless (bound < states) (BoundBelow bound states)) (λ _.
+    Then (Unless (20000000 < steps states (length r.classes) bound) (Beyond Steps)) (λ _.
+    Is (HasShape model r bound)))))
