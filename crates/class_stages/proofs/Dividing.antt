@@ -1,11 +1,10 @@
 -- Why the classes of a chart and cuts are made, and why they are not.
-use Rattle.std.proofs.Common.{◌≡◌, ℕ, ◌<◌, ◌≤◌, ℤ, Bool, true, false, ◌||◌, List, [], ◌∷◌, ◌++◌, length, map, Result, Ok, Err, refl, sym, ◌∙◌, ap, subst, arith}
+use Rattle.std.proofs.Common.{◌≡◌, ℕ, ◌<◌, ℤ, Bool, true, false, ◌||◌, List, [], ◌∷◌, ◌++◌, length, map, Ok, Err, refl, sym, ◌∙◌, ap, subst, arith}
 use Rattle.std.specs.List.{list_any, All}
 use Rattle.std.proofs.lemmas.Bool.{false≢true}
 use Rattle.std.proofs.lemmas.List.Elements.{All-weaker, All-head}
-use Rattle.lin_form.specs.Atom.{inequality_of, AreAsSaid}
-use Rattle.lin_form.specs.Inequality.{Inequality, says}
-use Rattle.lin_form.specs.Range.{IsInRanges}
+use Rattle.lin_form.specs.Atom.{inequality_of}
+use Rattle.lin_form.specs.Inequality.{says}
 use Rattle.lin_form.specs.Signature.{ranges_of}
 use Rattle.lin_form.specs.declared.atom.Atom.{Atom}
 use Rattle.lin_form.specs.declared.form.Comparison.{Comparison}

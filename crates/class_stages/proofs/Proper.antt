@@ -1,7 +1,7 @@
 -- The stages of classes have one outcome.
-use Rattle.std.proofs.Common.{◌≡◌, ℕ, ℤ, Bool, true, false, List, [], ◌∷◌, ◌++◌, length, map, refl, sym, ◌∙◌, ap, subst}
+use Rattle.std.proofs.Common.{◌≡◌, ℕ, ℤ, Bool, true, false, List, [], ◌∷◌, ◌++◌, map, refl, sym, ◌∙◌, subst}
 use Rattle.std.specs.Prelude.{◌↔◌}
-use Rattle.std.specs.List.{All, flat_map}
+use Rattle.std.specs.List.{flat_map}
 use Rattle.std.proofs.Math.Path.{to_path_p}
 use Rattle.std.proofs.lemmas.List.Elements.{All-weaker}
 use Rattle.lin_form.specs.Atom.{inequality_of}
@@ -12,17 +12,15 @@ use Rattle.lin_form.specs.declared.form.Comparison.{Comparison}
 use Rattle.lin_form.specs.declared.literal.Literal.{Literal}
 use Rattle.lin_form.specs.declared.signature.Signature.{Signature}
 use Rattle.input_classes.specs.declared.class.Class.{Class}
-use Rattle.input_classes.specs.Partition.{Partition, IsPartition, IsWitnessed, patterns, pattern_of}
+use Rattle.input_classes.specs.Partition.{Partition, IsPartition, IsWitnessed}
 use Rattle.input_classes.specs.VectorSet.{Box, IsIn, box_of}
 use Rattle.input_classes.proofs.CallerLemmas.{one_partition}
 use Rattle.text_lines.specs.Reading.{IsDecided}
-use Rattle.chart_model.specs.Box.{IsInBox}
 use Rattle.chart_model.specs.declared.chart.Chart.{Chart}
-use Rattle.guard_atoms.specs.Atoms.{has_large_coefficient, has_many_atoms}
 use Rattle.cut_syntax.specs.Cuts.{ReadsCuts, RefusesCuts}
 use Rattle.command_stages.specs.declared.stop.Source.{Source}
 use Rattle.command_stages.specs.declared.stop.Source.TheVariants.{Word}
-use Rattle.command_stages.specs.Stage.{IsProper, IsDecidedBy, Is}
+use Rattle.command_stages.specs.Stage.{IsProper, IsDecidedBy}
 use Rattle.command_stages.proofs.Proper.{proper_then, proper_is, proper_text, proper_reading, proper_unless}
 use Rattle.command_stages.proofs.ProperBy.{IsProperBy, like_is, like_then}
 use Rattle.class_stages.specs.Cutting.{CutsAt}

@@ -1,5 +1,5 @@
 -- The text of classes.
-use Rattle.std.specs.Prelude.{ℕ, ℤ, Bool, true, false, List, [], ◌∷◌, ◌++◌, map, codes}
+use Rattle.std.specs.Prelude.{ℕ, Bool, true, false, List, [], ◌∷◌, ◌++◌, map, codes}
 use Rattle.std.specs.List.{flat_map}
 use Rattle.lin_form.specs.declared.atom.Atom.{Atom}
 use Rattle.input_classes.specs.declared.class.Class.{Class}

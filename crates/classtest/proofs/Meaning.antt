@@ -1,17 +1,15 @@
 -- What the text of a command shows, from the answer that is carried out.
-use Rattle.std.proofs.Common.{◌≡◌, ℕ, ◌≤◌, Bool, true, false, List, [], map, Option, Some, None, Result, Ok, Err, refl, sym, ◌∙◌, ap, subst, arith, inl, inr}
-use Rattle.test_world.specs.Sink.{Grows}
+use Rattle.std.proofs.Common.{◌≡◌, ℕ, Bool, true, false, List, map, Option, Some, None, Ok, refl, ap, subst}
 use Rattle.lin_form.specs.declared.form.Comparison.{Comparison}
 use Rattle.lin_form.specs.declared.signature.Signature.{Signature}
-use Rattle.lin_form.specs.Signature.{ranges_of}
 use Rattle.input_classes.specs.Partition.{Partition, Covers}
 use Rattle.input_classes.specs.VectorSet.{Box}
 use Rattle.input_classes.proofs.CallerLemmas.{partition-covers}
 use Rattle.subject.specs.Alike.{MembersActAlike}
-use Rattle.subject.specs.Domain.{Complete, Inside, box}
+use Rattle.subject.specs.Domain.{box}
 use Rattle.subject.specs.FiniteMap.{plan_of_map}
 use Rattle.subject.specs.Shape.{HasShape}
-use Rattle.subject.specs.Suite.{SuiteParts, tests_of}
+use Rattle.subject.specs.Suite.{SuiteParts}
 use Rattle.subject.proofs.CallerLemmas.{by_classes, more_states, shape_decides}
 use Rattle.chart_model.specs.declared.chart.Chart.{Chart}
 use Rattle.chart_meaning.specs.Plan.{plan_of_chart}
@@ -22,9 +20,8 @@ use Rattle.command_words.specs.declared.command.Command.{Command}
 use Rattle.command_words.specs.declared.command.Command.TheVariants.{Play, Classes, Suite}
 use Rattle.command_words.specs.Command.{command_of, IsCommand}
 use Rattle.command_stages.specs.declared.stop.Source.{Source}
-use Rattle.command_stages.specs.declared.stop.Stop.{Stop}
-use Rattle.command_stages.specs.Stage.{Given, Stage, Then, Is, TextAt, Reading, Unless, Printed}
-use Rattle.command_stages.specs.Serve.{Run, given_of, Ends, IsRun}
+use Rattle.command_stages.specs.Stage.{Given, Then, Is, TextAt, Reading, Unless, Printed}
+use Rattle.command_stages.specs.Serve.{Run, given_of, IsRun}
 use Rattle.command_stages.specs.Texts.{ChartAt}
 use Rattle.class_stages.specs.Classes.{IsChartPartition, ClassesOver}
 use Rattle.class_stages.specs.Cutting.{CutsAt}
@@ -32,7 +29,7 @@ use Rattle.class_stages.specs.Text.{classes_text}
 use Rattle.suite_stages.specs.Suites.{SuiteOver}
 use Rattle.suite_model.specs.Text.{suite_text}
 use Rattle.classtest.specs.Ends.{ClassesEnds, SuiteEnds, AnswersCommand, Answers}
-use Rattle.classtest.specs.Means.{IsChartAt, AreCutsAt, AreInputsOf, AreClassesOf, IsSuiteOf, Means, PutsMeaning}
+use Rattle.classtest.specs.Means.{IsChartAt, AreCutsAt, AreClassesOf, IsSuiteOf, Means, PutsMeaning}
 
 chart_at : (given : Given) (sources : List Source) (chart : Chart) → ChartAt 1 given sources (Ok chart) → IsChartAt 1 given chart
 unfolding Then TextAt Reading

@@ -1,5 +1,5 @@
 -- What each command comes to, and what is answered.
-use Rattle.std.specs.Prelude.{◌≡◌, ℕ, Bool, true, List, [], ◌⊎◌, Option, Some, None, Err}
+use Rattle.std.specs.Prelude.{◌≡◌, ℕ, Bool, true, [], ◌⊎◌, Option, Some, None, Err}
 use Rattle.suite_model.specs.Text.{suite_text}
 use Rattle.command_words.specs.declared.command.Command.{Command}
 use Rattle.command_words.specs.declared.command.Command.TheVariants.{Play, Classes, Suite}

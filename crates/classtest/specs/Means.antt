@@ -1,5 +1,5 @@
 -- What the text of a command shows.
-use Rattle.std.specs.Prelude.{◌≡◌, ℕ, Bool, true, false, List, [], Option, Some, None}
+use Rattle.std.specs.Prelude.{◌≡◌, ℕ, Bool, true, false, List, [], Option, Some}
 use Rattle.test_world.specs.Shelf.{Holds}
 use Rattle.test_world.specs.Sink.{Grows}
 use Rattle.lin_form.specs.declared.form.Comparison.{Comparison}
@@ -15,7 +15,7 @@ use Rattle.subject.specs.Shape.{HasShape}
 use Rattle.subject.specs.Suite.{SuiteParts, tests_of}
 use Rattle.suite_model.specs.Text.{suite_text}
 use Rattle.command_words.specs.declared.command.Command.{Command}
-use Rattle.command_words.specs.declared.command.Command.TheVariants.{Play, Classes, Suite}
+use Rattle.command_words.specs.declared.command.Command.TheVariants.{Classes, Suite}
 use Rattle.command_stages.specs.Report.{word_at}
 use Rattle.command_stages.specs.Stage.{Given}
 use Rattle.command_stages.specs.Serve.{Run, given_of}

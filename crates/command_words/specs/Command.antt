@@ -73,9 +73,9 @@ command_of [] = None
 command_of (verb ∷ words) =
     if bytes_eq verb (codes "play") then when (fits_places 1 play_places words) Play
     else if bytes_eq verb (codes "classes") then
-        when (fits_places 1 classes_places words) (Classes (names_text words 1))
+    when (fits_places 1 classes_places words) (Classes (names_text words 1))
     else if bytes_eq verb (codes "suite") then
-        when (fits_places 1 suite_places words) (Suite (bound_at words 1) (names_text words 2))
+    when (fits_places 1 suite_places words) (Suite (bound_at words 1) (names_text words 2))
     else None
 
 -- the bound of a suite is from 1 to 1,024

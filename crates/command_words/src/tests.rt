@@ -4,7 +4,9 @@ use std::alloc::{AllocError, Global};
 use std::test::Fail;
 
 const PLAY: Option<Command> = Some(Command::Play);
+
 const CUT: Option<Command> = Some(Command::Classes { cuts: true });
+
 const UNCUT: Option<Command> = Some(Command::Classes { cuts: false });
 
 /// The suite without cuts for a bound.

@@ -110,7 +110,7 @@ abbrev pub added_up : Names → Bool → Option Variable → List SignedTerm →
 added_up s subtracted v [] = pos 0
 added_up s subtracted v (t ∷ terms) =
     (if is_same_variable (variable_of_term s t.term) v
-        then signed (is_negative subtracted t.negated) (factor_of t.term) else pos 0)
+    then signed (is_negative subtracted t.negated) (factor_of t.term) else pos 0)
     +ℤ added_up s subtracted v terms
 
 -- the variable is one of so many inputs or of the four memories, or none

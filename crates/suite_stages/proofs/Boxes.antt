@@ -1,16 +1,14 @@
 -- Two sets with the same vectors: words, ranks, covers and shapes over them are the same.
-use Rattle.std.proofs.Common.{◌≡◌, ℕ, ℤ, List, get_or, refl, sym, ◌∙◌, ap, subst}
-use Rattle.std.specs.List.{All}
+use Rattle.std.proofs.Common.{ℕ, ℤ, List, get_or}
 use Rattle.std.proofs.Math.Logic.{∥∥₁_map}
 use Rattle.std.proofs.lemmas.List.Elements.{All-weaker}
 use Rattle.lin_form.specs.declared.atom.Atom.{Atom}
 use Rattle.lin_form.specs.declared.literal.Literal.{Literal}
 use Rattle.input_classes.specs.declared.class.Class.{Class}
-use Rattle.input_classes.specs.Partition.{Partition, witnesses}
+use Rattle.input_classes.specs.Partition.{witnesses}
 use Rattle.input_classes.specs.VectorSet.{VectorSet, IsIn, Word, IsWordOf, box_of}
 use Rattle.suite_words.specs.Cover.{IsFirstOfItsKind, IsCoverBy}
-use Rattle.subject.specs.Alike.{LeadAlike, LeadDifferently, HasAtMost, HasRank, IsListed}
-use Rattle.subject.specs.Domain.{box}
+use Rattle.subject.specs.Alike.{LeadAlike, HasAtMost, HasRank, IsListed}
 use Rattle.subject.specs.Meaning.{Meaning}
 use Rattle.subject.specs.Shape.{LeadAlikeBy, HasShape}
 use Rattle.subject.specs.Suite.{SuiteParts, in_vectors}

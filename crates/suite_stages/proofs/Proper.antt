@@ -1,5 +1,5 @@
 -- The stage of a suite has one outcome.
-use Rattle.std.proofs.Common.{◌≡◌, ℕ, ℤ, ◌≤◌, List, Result, Ok, Err, refl, sym, ◌∙◌, ap, subst, arith, inl, inr}
+use Rattle.std.proofs.Common.{◌≡◌, ℕ, ℤ, List, Result, Ok, Err, sym, subst, arith, inl, inr}
 use Rattle.lin_form.specs.declared.atom.Atom.{Atom}
 use Rattle.lin_form.specs.declared.literal.Literal.{Literal}
 use Rattle.input_classes.specs.declared.class.Class.{Class}

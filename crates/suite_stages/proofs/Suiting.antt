@@ -1,5 +1,5 @@
 -- Why a suite is made, and why it is not.
-use Rattle.std.proofs.Common.{◌≡◌, ℕ, ◌<◌, ◌≤◌, List, length, Result, Ok, Err, arith}
+use Rattle.std.proofs.Common.{ℕ, ◌<◌, ◌≤◌, List, Ok, Err, arith}
 use Rattle.test_world.specs.Shelf.{ShelfState}
 use Rattle.input_classes.specs.Partition.{Partition}
 use Rattle.subject.specs.Shape.{HasShape}

@@ -1,4 +1,4 @@
-use Rattle.class_stages.proofs.Dividing.{IsKnown, unlisted, unassumed, unbounded, undivided, made_classes}
+use Rattle.class_stages.proofs.Dividing.{unlisted, unassumed, unbounded, undivided, made_classes}
 use Rattle.class_stages.proofs.classes.classes_over.Goals as goal
 
 pub returns-in-Err-clause-made : goal.returns-in-Err-clause-made

@@ -1,4 +1,4 @@
-use Rattle.std.proofs.Common.{◌≡◌, ◌∙◌, sym, map, Some}
+use Rattle.std.proofs.Common.{◌≡◌, sym, map, Some}
 use Rattle.std.specs.Prelude.{string_bytes}
 use Rattle.command_words.specs.Command.{command_of}
 use Rattle.command_words.specs.declared.command.Command.TheVariants.{Play, Classes, Suite}

@@ -52,9 +52,11 @@ pub conj_end-units-preserved : goal.conj_end-units-preserved
 conj_end-units-preserved t c =
     let h = c.in-Some-unit_end.ensures.found in
     let inside = c.in-Some-unit_end.ensures.inside in
-    let value = c.units.invariant.0 in
-    (tree.and value (unit_tree h.0), conj_next c.args.line.now c.args.at c.units.end c.in-Some-unit_end.next value (tree.and value (unit_tree h.0)) h.0 c.units.invariant.1 c.units-test.ensures.found h.1 refl
-    (omega (arith, inside.0)) inside.1)
+    let value = c.units.invariant.0 in (
+      tree.and value (unit_tree h.0),
+      conj_next c.args.line.now c.args.at c.units.end c.in-Some-unit_end.next value (tree.and value (unit_tree h.0)) h.0 c.units.invariant.1 c.units-test.ensures.found h.1 refl
+          (omega (arith, inside.0)) inside.1,
+    )
 
 pub conj_end-returns-clause-found : goal.conj_end-returns-clause-found
 conj_end-returns-clause-found t c =
@@ -79,9 +81,11 @@ pub guard_end-conjs-preserved : goal.guard_end-conjs-preserved
 guard_end-conjs-preserved t c =
     let h = c.in-Some-conj_end.ensures.found in
     let inside = c.in-Some-conj_end.ensures.inside in
-    let value = c.conjs.invariant.0 in
-    (tree.or value (conj_tree h.0), guard_next c.args.line.now c.args.at c.conjs.end c.in-Some-conj_end.next value (tree.or value (conj_tree h.0)) h.0 c.conjs.invariant.1 c.conjs-test.ensures.found h.1 refl
-    (omega (arith, inside.0)) inside.1)
+    let value = c.conjs.invariant.0 in (
+      tree.or value (conj_tree h.0),
+      guard_next c.args.line.now c.args.at c.conjs.end c.in-Some-conj_end.next value (tree.or value (conj_tree h.0)) h.0 c.conjs.invariant.1 c.conjs-test.ensures.found h.1 refl
+          (omega (arith, inside.0)) inside.1,
+    )
 
 pub guard_end-returns-clause-found : goal.guard_end-returns-clause-found
 guard_end-returns-clause-found t c =
