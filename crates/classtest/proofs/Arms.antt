@@ -1,11 +1,11 @@
 -- The arms of the top call.
-use Rattle.std.proofs.Common.{◌≡◌, Bool, Option, Some, Result, sym, subst}
+use Rattle.std.proofs.Common.{◌≡◌, Bool, List, [], ℕ, Option, Some, None, Result, Ok, Err, refl, sym, subst}
 use Rattle.command_words.specs.declared.command.Command.{Command}
 use Rattle.command_words.specs.Command.{command_of, IsCommand}
 use Rattle.command_stages.specs.declared.stop.Stop.{Stop}
 use Rattle.command_stages.specs.Stage.{Stage, Printed, Made}
 use Rattle.command_stages.specs.Finish.{Finishes}
-use Rattle.command_stages.specs.Serve.{Run, IsRun, Whole}
+use Rattle.command_stages.specs.Serve.{Answer, Run, IsRun, Whole}
 use Rattle.command_stages.proofs.Serving.{run_whole}
 use Rattle.classtest.specs.Ends.{Answers, AnswersCommand}
 

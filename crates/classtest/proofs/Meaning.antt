@@ -1,15 +1,17 @@
 -- What the text of a command shows, from the answer that is carried out.
-use Rattle.std.proofs.Common.{◌≡◌, ℕ, Bool, true, false, List, map, Option, Some, None, Ok, refl, ap, subst}
+use Rattle.std.proofs.Common.{◌≡◌, ℕ, ◌≤◌, Bool, true, false, List, [], map, Option, Some, None, Result, Ok, Err, refl, sym, ◌∙◌, ap, subst, arith, inl, inr}
+use Rattle.test_world.specs.Sink.{Grows}
 use Rattle.lin_form.specs.declared.form.Comparison.{Comparison}
 use Rattle.lin_form.specs.declared.signature.Signature.{Signature}
+use Rattle.lin_form.specs.Signature.{ranges_of}
 use Rattle.input_classes.specs.Partition.{Partition, Covers}
 use Rattle.input_classes.specs.VectorSet.{Box}
 use Rattle.input_classes.proofs.CallerLemmas.{partition-covers}
 use Rattle.subject.specs.Alike.{MembersActAlike}
-use Rattle.subject.specs.Domain.{box}
+use Rattle.subject.specs.Domain.{Complete, Inside, box}
 use Rattle.subject.specs.FiniteMap.{plan_of_map}
 use Rattle.subject.specs.Shape.{HasShape}
-use Rattle.subject.specs.Suite.{SuiteParts}
+use Rattle.subject.specs.Suite.{SuiteParts, tests_of}
 use Rattle.subject.proofs.CallerLemmas.{by_classes, more_states, shape_decides}
 use Rattle.chart_model.specs.declared.chart.Chart.{Chart}
 use Rattle.chart_meaning.specs.Plan.{plan_of_chart}
@@ -17,19 +19,31 @@ use Rattle.guard_atoms.specs.Atoms.{atoms_in}
 use Rattle.lin_form.specs.Atom.{inequality_of}
 use Rattle.input_classes.specs.VectorSet.{VectorSet}
 use Rattle.command_words.specs.declared.command.Command.{Command}
-use Rattle.command_words.specs.declared.command.Command.TheVariants.{Play, Classes, Suite}
+use Rattle.command_words.specs.declared.command.Command.TheVariants.{Play, Classes, Suite, Run as RunSuite}
 use Rattle.command_words.specs.Command.{command_of, IsCommand}
 use Rattle.command_stages.specs.declared.stop.Source.{Source}
-use Rattle.command_stages.specs.Stage.{Given, Then, Is, TextAt, Reading, Unless, Printed}
-use Rattle.command_stages.specs.Serve.{Run, given_of, IsRun}
+use Rattle.command_stages.specs.declared.stop.Stop.{Stop}
+use Rattle.command_stages.specs.declared.stop.Stop.TheVariants.{NoCommand}
+use Rattle.command_stages.specs.Stage.{Given, Stage, Then, Is, TextAt, Reading, Unless, Printed}
+use Rattle.command_stages.specs.Serve.{Run, given_of, Ends, IsRun}
 use Rattle.command_stages.specs.Texts.{ChartAt}
 use Rattle.class_stages.specs.Classes.{IsChartPartition, ClassesOver}
 use Rattle.class_stages.specs.Cutting.{CutsAt}
 use Rattle.class_stages.specs.Text.{classes_text}
 use Rattle.suite_stages.specs.Suites.{SuiteOver}
 use Rattle.suite_model.specs.Text.{suite_text}
-use Rattle.classtest.specs.Ends.{ClassesEnds, SuiteEnds, AnswersCommand, Answers}
-use Rattle.classtest.specs.Means.{IsChartAt, AreCutsAt, AreClassesOf, IsSuiteOf, Means, PutsMeaning}
+use Rattle.impl_table.specs.Fitting.{first_difference}
+use Rattle.subject.specs.Domain.{IsFitting}
+use Rattle.run_stages.specs.declared.implementation.Implementation.{Implementation}
+use Rattle.run_stages.specs.Implementations.{signature_of}
+use Rattle.run_stages.specs.Stages.{printed_verdict}
+use Rattle.run_stages.proofs.Fits.{has_fit}
+use Rattle.classtest.specs.Ends.{PlayEnds, ClassesEnds, SuiteEnds, RunEnds, AnswersCommand, Answers}
+use Rattle.classtest.specs.Play.{play_text}
+use Rattle.classtest.specs.Inputs.{IsChartAt, AreCutsAt, AreInputsOf}
+use Rattle.classtest.specs.Runs.{IsRunOf}
+use Rattle.classtest.specs.Means.{AreClassesOf, IsSuiteOf, Means, PutsMeaning}
+use Rattle.classtest.proofs.Running.{implementation_at, suite_over, shows}
 
 chart_at : (given : Given) (sources : List Source) (chart : Chart) → ChartAt 1 given sources (Ok chart) → IsChartAt 1 given chart
 unfolding Then TextAt Reading
@@ -44,12 +58,11 @@ classes_over : (chart : Chart) (cuts : List Comparison) (given : Given) (sources
 unfolding Then Unless Is
 classes_over chart cuts given sources r (a, b, c, d, e, (f, g, h, i, j, (k, l, m, n, o, (p, q, s, t, u, v)))) = v.1
 
-suite_over : (bound : ℕ) (chart : Chart) (r : Partition) (given : Given) (sources : List Source) (s : SuiteParts) → SuiteOver bound chart r given sources (Ok s) → HasShape (plan_of_chart chart) r bound s
-unfolding Then Unless Is
-suite_over bound chart r given sources suite (a, b, c, d, e, (f, g, h, i, j, (k, l, m, n, o, (p, q, s, t, u, v)))) = v.1
+text_of : (a b : List ℕ) (p q : Bool) → (let x : Printed = record { passes = p; text = a } in x) ≡ record { passes = q; text = b } → a ≡ b
+text_of a b p q e = ap (λ (x : Printed). x.text) e
 
-text_of : (a b : List ℕ) (passes : Bool) → (let p : Printed = record { passes = passes; text = a } in p) ≡ record { passes = true; text = b } → a ≡ b
-text_of a b passes e = ap (λ (p : Printed). p.text) e
+passes_of : (a b : List ℕ) (p q : Bool) → (let x : Printed = record { passes = p; text = a } in x) ≡ record { passes = q; text = b } → p ≡ q
+passes_of a b p q e = ap (λ (x : Printed). x.passes) e
 
 -- the members of each class act alike in the chart's plan
 abbrev pub ActAlike : Type 0
@@ -61,41 +74,70 @@ alike law chart cuts r h = law chart cuts r (box (plan_of_chart chart) r) h.atom
 covers : (chart : Chart) (cuts : List Comparison) (r : Partition) → IsChartPartition chart cuts r → Covers (box (plan_of_chart chart) r) r
 covers chart cuts r h = subst (λ ranges. Covers (Box ranges r.assumed) r) h.ranges (partition-covers r h.exact)
 
-are_classes : ActAlike → (named : Bool) (given : Given) (sources : List Source) (text : List ℕ) → ClassesEnds named given sources (Ok (record { passes = true; text = text })) → AreClassesOf named given text
+are_classes : ActAlike → (named : Bool) (given : Given) (sources : List Source) (passes : Bool) (text : List ℕ) → ClassesEnds named given sources (Ok (record { passes = passes; text = text })) → (passes ≡ true) × AreClassesOf named given text
 unfolding Then Is
-are_classes law named given sources text (chart, a, b, c, is_chart, (cuts, d, e, f, are_cuts, (r, g, h, i, are, printed))) =
-    let partition = classes_over chart cuts given g r are in
-    record {
-      inputs = record { chart = chart; cuts = cuts; partition = r; is_chart = chart_at given a chart is_chart; are_cuts = cuts_at named 2 chart.signature given d cuts are_cuts; is_partition = partition };
-      same_text = text_of text (classes_text r) true printed.1;
-      alike = alike law chart cuts r partition;
-    }
+are_classes law named given sources passes text (chart, a, b, c, is_chart, (cuts, d, e, f, are_cuts, (r, g, h, i, are, printed))) =
+    let partition = classes_over chart cuts given g r are in (
+      passes_of text (classes_text r) passes true printed.1,
+      record {
+        inputs = record { chart = chart; cuts = cuts; partition = r; is_chart = chart_at given a chart is_chart; are_cuts = cuts_at named 2 chart.signature given d cuts are_cuts; is_partition = partition };
+        same_text = text_of text (classes_text r) passes true printed.1;
+        alike = alike law chart cuts r partition;
+      },
+    )
 
-is_suite : ActAlike → (bound : ℕ) (named : Bool) (given : Given) (sources : List Source) (text : List ℕ) → SuiteEnds bound named given sources (Ok (record { passes = true; text = text })) → IsSuiteOf bound named given text
+is_suite : ActAlike → (bound : ℕ) (named : Bool) (given : Given) (sources : List Source) (passes : Bool) (text : List ℕ) → SuiteEnds bound named given sources (Ok (record { passes = passes; text = text })) → (passes ≡ true) × IsSuiteOf bound named given text
 unfolding Then Is
-is_suite law bound named given sources text (chart, a, b, c, is_chart, (cuts, d, e, f, are_cuts, (r, g, h, i, are, (suite, j, k, l, made, printed)))) =
+is_suite law bound named given sources passes text (chart, a, b, c, is_chart, (cuts, d, e, f, are_cuts, (r, g, h, i, are, (suite, j, k, l, made, printed)))) =
     let m = plan_of_chart chart in
     let partition = classes_over chart cuts given g r are in
     let shape = suite_over bound chart r given j suite made in
-    let covered = covers chart cuts r partition in
+    let covered = covers chart cuts r partition in (
+      passes_of text (suite_text suite) passes true printed.1,
+      record {
+        inputs = record { chart = chart; cuts = cuts; partition = r; is_chart = chart_at given a chart is_chart; are_cuts = cuts_at named 3 chart.signature given d cuts are_cuts; is_partition = partition };
+        suite = suite;
+        same_text = text_of text (suite_text suite) passes true printed.1;
+        shape = shape;
+        complete = λ f inside. shape_decides m r bound covered suite (plan_of_map f) inside shape;
+        inside = record {
+          fits = record { names = refl; ranges = refl; outputs = refl };
+          states = more_states m (box m r) suite.states bound shape.suits.rank.most shape.suits.few;
+          classes = by_classes (box m r) r m covered (alike law chart cuts r partition);
+        };
+      },
+    )
+
+plays : (given : Given) (sources : List Source) (passes : Bool) (text : List ℕ) → PlayEnds given sources (Ok (record { passes = passes; text = text })) → passes ≡ true
+unfolding Then Is
+plays given sources passes text (chart, a, b, c, is_chart, (word, d, e, f, is_word, printed)) = passes_of text (play_text chart word) passes true printed.1
+
+is_run : (bound : ℕ) (named : Bool) (given : Given) (sources : List Source) (passes : Bool) (text : List ℕ) → RunEnds bound named given sources (Ok (record { passes = passes; text = text })) → IsRunOf bound named given passes text
+unfolding Then Is
+is_run bound named given sources passes text (chart, a, b, c, is_chart, (cuts, d, e, f, are_cuts, (i, g, h, j, is, (u, k, l, m, fit, (r, n, o, p, are, (suite, q, s, t, made, (v, w, x, y, judged, printed))))))) =
+    let partition = classes_over chart cuts given n r are in
+    let shape = suite_over bound chart r given q suite made in
+    let same = printed_verdict suite v in
     record {
       inputs = record { chart = chart; cuts = cuts; partition = r; is_chart = chart_at given a chart is_chart; are_cuts = cuts_at named 3 chart.signature given d cuts are_cuts; is_partition = partition };
+      implementation = i;
+      is_implementation = implementation_at 4 given g i is;
+      fits = has_fit 4 chart.signature (signature_of i) given k fit;
       suite = suite;
-      same_text = text_of text (suite_text suite) true printed.1;
       shape = shape;
-      complete = λ f inside. shape_decides m r bound covered suite (plan_of_map f) inside shape;
-      inside = record {
-        fits = record { names = refl; ranges = refl; outputs = refl };
-        states = more_states m (box m r) suite.states bound shape.suits.rank.most shape.suits.few;
-        classes = by_classes (box m r) r m covered (alike law chart cuts r partition);
-      };
+      verdict = v;
+      is_verdict = judged.1;
+      same_text = text_of text same.text passes same.passes printed.1;
+      same_passes = passes_of text same.text passes same.passes printed.1;
+      shows = shows chart r bound suite i v (covers chart cuts r partition) shape judged.1;
     }
 
-shown : ActAlike → (o : Option Command) (given : Given) (sources : List Source) (text : List ℕ) → AnswersCommand o given sources (record { put = text; ends = Ok true }) → Means o given text
-shown law None given sources text h = tt
-shown law (Some Play) given sources text h = tt
-shown law (Some (Classes named)) given sources text h = are_classes law named given sources text h
-shown law (Some (Suite bound named)) given sources text h = is_suite law bound named given sources text h
+shown : ActAlike → (o : Option Command) (given : Given) (sources : List Source) (passes : Bool) (text : List ℕ) → AnswersCommand o given sources (record { put = text; ends = Ok passes }) → Means o given passes text
+shown law None given sources passes text h = let e : Ok passes ≡ Err NoCommand = (λ i. (h.1 i).ends) in absurd cc
+shown law (Some Play) given sources passes text h = plays given sources passes text h
+shown law (Some (Classes named)) given sources passes text h = are_classes law named given sources passes text h
+shown law (Some (Suite bound named)) given sources passes text h = is_suite law bound named given sources passes text h
+shown law (Some (RunSuite bound named)) given sources passes text h = is_run bound named given sources passes text h
 
-pub meant : ActAlike → (run : Run) → IsRun Answers (IsCommand run.words) run (Ok true) → PutsMeaning (command_of run.words) run
-meant law run h = let (text, is_for, put) = h.ends in (text, put, shown law (command_of run.words) (given_of run) is_for.0 text is_for.1)
+pub meant : ActAlike → (run : Run) (passes : Bool) → IsRun Answers (IsCommand run.words) run (Ok passes) → PutsMeaning (command_of run.words) run passes
+meant law run passes h = let (text, is_for, put) = h.ends in (text, put, shown law (command_of run.words) (given_of run) is_for.0 passes text is_for.1)

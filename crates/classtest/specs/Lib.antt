@@ -1,3 +1,5 @@
 pub mod Play
 pub mod Ends
+pub mod Inputs
+pub mod Runs
 pub mod Means

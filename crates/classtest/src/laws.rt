@@ -1,4 +1,4 @@
-ghost use Rattle.std.specs.Prelude.{◌≡◌, List, ℕ, Ok, Err, true};
+ghost use Rattle.std.specs.Prelude.{◌≡◌, Bool, List, ℕ, Ok, Err};
 ghost use Rattle.command_words.specs.Command.{IsCommand, command_of};
 ghost use Rattle.command_stages.specs.declared.stop.Source.{Source};
 ghost use Rattle.command_stages.specs.declared.stop.Stop.TheVariants.{Unread};
@@ -10,6 +10,8 @@ ghost use Rattle.classtest.specs.Means.{PutsMeaning};
 use chart_syntax::{chart_or_refusal, word_or_refusal};
 use cut_syntax::cuts_or_refusal;
 use guard_atoms::members_act_alike;
+use impl_table::table_or_refusal;
+use test_subject::verdict_on_answers;
 
 /// There is at most one answer to words and held texts, and a command reads none but the texts that its words name.
 /// This is a law; it does nothing.
@@ -21,12 +23,14 @@ pub fn one_answer()
     chart_or_refusal();
     word_or_refusal();
     cuts_or_refusal();
+    table_or_refusal();
+    verdict_on_answers();
 }
 
 /// What the text of a command shows, where it is put whole. This is a law; it does nothing.
 pub fn texts_show()
-    ensures { (run : Run) → IsRun Answers (IsCommand run.words) run (Ok true)
-        → PutsMeaning (command_of run.words) run }
+    ensures { (run : Run) (passes : Bool) → IsRun Answers (IsCommand run.words) run (Ok passes)
+        → PutsMeaning (command_of run.words) run passes }
 {
     members_act_alike();
 }

@@ -7,6 +7,7 @@ mod classes;
 mod edges;
 mod failing;
 mod order;
+mod runs;
 mod suites;
 
 use crate::top::classtest;
@@ -21,6 +22,10 @@ const CHART: &str =
 /// The same chart where something is assumed of its input.
 const CHART_ASSUMING: &str =
     "chart 2\ninput v 0 10\nassume v >= 6\noutput alarm 0\nstate Low start\nstate High\non Low when v >= 8 do alarm = 1 go High\non High when v <= 5 do alarm = 0 go Low\n";
+
+/// A speed monitor.
+const MONITOR: &str =
+    "chart 1\ninput v 0 4000\ninput lim 0 4000\noutput warn 0\noutput brake 0\nstate Normal start\nstate Over\nstate Warning\nstate Braking\non Normal when v > lim + 100 do warn = 1, brake = 1 go Braking\non Normal when v > lim + 50 do warn = 1 go Warning\non Normal when v > lim go Over\non Over when v > lim + 100 do warn = 1, brake = 1 go Braking\non Over when v > lim + 50 do warn = 1 go Warning\non Over when v <= lim go Normal\non Warning when v > lim + 100 do brake = 1 go Braking\non Warning when v <= lim do warn = 0 go Normal\non Braking when v = 0 do warn = 0, brake = 0 go Normal\n";
 
 /// Charts and words by their names.
 const TEXTS: [(&str, &str); 27] = [
@@ -72,10 +77,7 @@ const TEXTS: [(&str, &str); 27] = [
         "P2odd",
         "chart 2\ninput a 0 3\ninput b 0 3\nassume 2*a = 2*b + 1\noutput o 0\nstate S start\non S when 2*a = 2*b + 1 do o = 1\n",
     ),
-    (
-        "MON",
-        "chart 1\ninput v 0 4000\ninput lim 0 4000\noutput warn 0\noutput brake 0\nstate Normal start\nstate Over\nstate Warning\nstate Braking\non Normal when v > lim + 100 do warn = 1, brake = 1 go Braking\non Normal when v > lim + 50 do warn = 1 go Warning\non Normal when v > lim go Over\non Over when v > lim + 100 do warn = 1, brake = 1 go Braking\non Over when v > lim + 50 do warn = 1 go Warning\non Over when v <= lim go Normal\non Warning when v > lim + 100 do brake = 1 go Braking\non Warning when v <= lim do warn = 0 go Normal\non Braking when v = 0 do warn = 0, brake = 0 go Normal\n",
-    ),
+    ("MON", MONITOR),
     ("speeds", "0 0\n201 100\n101 100\n0 0\n"),
     (
         "HIST",

@@ -1,4 +1,5 @@
-ghost use Rattle.std.specs.Prelude.{◌≡◌, map, string_bytes};
+ghost use Rattle.std.specs.Prelude.{◌≡◌, Bool, Ok, map, string_bytes};
+ghost use Rattle.command_stages.specs.Report.{status_of};
 ghost use Rattle.command_stages.specs.Serve.{Run, IsRun, IsServed};
 ghost use Rattle.command_words.specs.Command.{IsCommand, command_of};
 ghost use Rattle.classtest.specs.Ends.{Answers};
@@ -7,6 +8,7 @@ ghost use Rattle.classtest.specs.Means.{PutsMeaning};
 use crate::classes::classes;
 use crate::laws::{one_answer, texts_show};
 use crate::play::play;
+use crate::run::run;
 use crate::suite::suite;
 use command_stages::{Stop, finish, report};
 use command_words::{Command, command_of};
@@ -34,15 +36,17 @@ fn serve<F: Shelf, K: Sink>(
         Some(Command::Suite { bound, cuts }) => {
             finish(suite(alloc, words, bound, cuts, shelf), out)
         }
+        Some(Command::Run { bound, cuts }) => finish(run(alloc, words, bound, cuts, shelf), out),
     }
 }
 
 /// All that the program does: `words` are the arguments after the program's name, and the answer is its status.
 ///
-/// 0: the whole text was put to `out`. Otherwise one line was put to `err`, and the status is 2 for words that are no
-/// command, 3 for a text that has no reading and for a chart whose assumptions no vector meets, 4 for a limit that is
-/// passed, a text that is too long and a bound below the number of states, 5 for a failed read or
-/// write, and 6 for want of memory.
+/// 0: the whole text was put to `out`. 1: so it was, and it names a test that the implementation of `run` does not answer as
+/// expected. Otherwise one line was put to `err`, and the status is 2 for words that are no command, 3 for a text that has
+/// no reading, for an implementation that does not fit and for a chart whose assumptions no vector meets, 4 for a limit
+/// that is passed, a text that is too long and a bound below the number of states, 5 for a failed read or write, and 6
+/// for want of memory.
 pub fn classtest<F: Shelf, K: Sink>(
     alloc: Global,
     words: &[String],
@@ -62,14 +66,14 @@ pub fn classtest<F: Shelf, K: Sink>(
       err_after = K.state err.new;
       status = result;
     }) }
-    // What the text of a command shows where the status is 0.
+    // What the text of a command shows where the status is 0, and where it is 1.
     ensures means { let run : Run = record {
       words = map string_bytes words.now;
       shelf = F.state shelf.old;
       shelf_after = F.state shelf.new;
       out = K.state out.old;
       out_after = K.state out.new;
-    } in result ≡ 0 → PutsMeaning (command_of run.words) run }
+    } in (passes : Bool) → result ≡ status_of (Ok passes) → PutsMeaning (command_of run.words) run passes }
 {
     one_answer();
     texts_show();

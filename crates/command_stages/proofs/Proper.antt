@@ -5,7 +5,7 @@ use Rattle.chart_syntax.specs.declared.error.Refusal as text_error
 use Rattle.chart_syntax.specs.declared.error.Refusal.TheVariants as met
 use Rattle.test_world.specs.Shelf.{Held, Holds, HoldsMoreThan}
 use Rattle.command_stages.specs.declared.stop.Refusal.{Refusal}
-use Rattle.command_stages.specs.declared.stop.Refusal.TheVariants.{Fault, Limit, TooLong, NoInput, Beyond, BoundBelow}
+use Rattle.command_stages.specs.declared.stop.Refusal.TheVariants.{Fault, Limit, TooLong, NoInput, Unfit, Beyond, BoundBelow}
 use Rattle.command_stages.specs.declared.stop.Source.{Source}
 use Rattle.command_stages.specs.declared.stop.Source.TheVariants.{Word, Replies}
 use Rattle.command_stages.specs.declared.stop.Stop.{Stop}
@@ -153,6 +153,7 @@ told number reads refuses given s (Refused (Fault name line kind)) d h = record 
 told number reads refuses given s (Refused (Limit name line which)) d h = record { line = line; what = met.Limit which; refused = h.2; is = ap (λ n. Refused (Limit n line which)) h.1 }
 told number reads refuses given s (Refused (TooLong name)) d h = let e = h.1 in absurd (cc)
 told number reads refuses given s (Refused (NoInput name)) d h = let e = h.1 in absurd (cc)
+told number reads refuses given s (Refused (Unfit name place)) d h = let e = h.1 in absurd (cc)
 told number reads refuses given s (Refused (Beyond quantity)) d h = let e = h.1 in absurd (cc)
 told number reads refuses given s (Refused (BoundBelow bound states)) d h = let e = h.1 in absurd (cc)
 told number reads refuses given s NoCommand d h = let e = h.1 in absurd (cc)

@@ -7,7 +7,9 @@ use Rattle.chart_syntax.specs.declared.error.Which.{Which}
 use Rattle.chart_syntax.specs.declared.error.Which.TheVariants as which
 use Rattle.command_stages.specs.declared.stop.Refusal.{Refusal}
 pub use Rattle.command_words.specs.Command.{word_at}
-use Rattle.command_stages.specs.declared.stop.Refusal.TheVariants.{Fault, Limit, TooLong, NoInput, Beyond, BoundBelow}
+use Rattle.command_stages.specs.declared.stop.Refusal.TheVariants.{Fault, Limit, TooLong, NoInput, Unfit, Beyond, BoundBelow}
+use Rattle.command_stages.specs.declared.stop.SignaturePlace.{SignaturePlace}
+use Rattle.command_stages.specs.declared.stop.SignaturePlace.TheVariants as place
 use Rattle.command_stages.specs.declared.stop.Quantity.{Quantity}
 use Rattle.command_stages.specs.declared.stop.Quantity.TheVariants as quantity
 use Rattle.command_stages.specs.declared.stop.Source.{Source}
@@ -26,6 +28,7 @@ status_of_refusal (Fault name line k) = 3
 status_of_refusal (Limit name line w) = 4
 status_of_refusal (TooLong name) = 4
 status_of_refusal (NoInput name) = 3
+status_of_refusal (Unfit name p) = 3
 status_of_refusal (Beyond q) = 4
 status_of_refusal (BoundBelow bound states) = 4
 
@@ -50,6 +53,7 @@ source_of (Refused (Fault name line k)) = Some (Word name)
 source_of (Refused (Limit name line w)) = Some (Word name)
 source_of (Refused (TooLong name)) = Some (Word name)
 source_of (Refused (NoInput name)) = Some (Word name)
+source_of (Refused (Unfit name p)) = Some (Word name)
 source_of other = None
 
 -- the line of the text that it names
@@ -100,12 +104,26 @@ quantity_word quantity.Classes = codes "classes"
 quantity_word quantity.Configurations = codes "configurations"
 quantity_word quantity.Steps = codes "steps"
 
+-- the word for a place in a signature
+abbrev pub place_word : SignaturePlace → List ℕ
+place_word place.Inputs = codes "inputs"
+place_word (place.Input number) = codes "input "
+place_word place.Outputs = codes "outputs"
+place_word (place.Output number) = codes "output "
+
+-- the number of the input or the output that is named, from 1
+abbrev pub number_in : SignaturePlace → Option ℕ
+number_in (place.Input number) = Some number
+number_in (place.Output number) = Some number
+number_in other = None
+
 -- what stands before the word
 abbrev pub before_of : Stop → List ℕ
 before_of (Refused (Limit name line w)) = codes ": limit "
 before_of (Refused (TooLong name)) = codes ": limit "
 before_of (Refused (Fault name line k)) = codes ": "
 before_of (Refused (NoInput name)) = codes ": "
+before_of (Refused (Unfit name p)) = codes ": unfit "
 before_of (Refused (Beyond q)) = codes "limit "
 before_of (Unread source) = codes ": "
 before_of other = []
@@ -117,11 +135,21 @@ word_of (Refused (Fault name line k)) = kind_word k
 word_of (Refused (Limit name line w)) = limit_word w
 word_of (Refused (TooLong name)) = codes "bytes"
 word_of (Refused (NoInput name)) = codes "no input"
+word_of (Refused (Unfit name p)) = place_word p
 word_of (Refused (Beyond q)) = quantity_word q
 word_of (Refused (BoundBelow bound states)) = codes "bound "
 word_of (Unread source) = codes "read fault"
 word_of WriteFault = codes "write fault"
 word_of NoMemory = codes "no memory"
+
+-- the number that stands after the word
+abbrev pub number_of : Stop → Option ℕ
+number_of (Refused (Unfit name p)) = number_in p
+number_of other = None
+
+abbrev pub numbered : Option ℕ → List ℕ
+numbered None = []
+numbered (Some number) = decimal number
 
 -- the bound and the number of states that stand after the word
 abbrev pub bounds_of : Stop → Option (ℕ × ℕ)
@@ -144,7 +172,8 @@ at_line (Some line) = codes ":" ++ decimal line
 
 -- what is said after the name
 abbrev pub said : Stop → List ℕ
-said stop = at_line (line_of_stop stop) ++ before_of stop ++ word_of stop ++ below (bounds_of stop) ++ codes "\n"
+said stop = at_line (line_of_stop stop) ++ before_of stop ++ word_of stop ++ numbered (number_of stop)
+    ++ below (bounds_of stop) ++ codes "\n"
 
 -- the line on `err`, for the words of the call
 abbrev pub err_line : List (List ℕ) → Stop → List ℕ

@@ -1,6 +1,6 @@
 ghost use Rattle.std.specs.Prelude.{◌≡◌, ◌≤◌, ◌+◌, ◌*◌, [], ◌∷◌, ◌++◌, length};
 ghost use Rattle.std.specs.Fmt.{decimal, signed_decimal};
-ghost use Rattle.command_stages.specs.Report.{said, at_line, below};
+ghost use Rattle.command_stages.specs.Report.{said, at_line, numbered, below};
 ghost use Rattle.command_stages.specs.Numbers.{after_spaces, spaced, line_of};
 
 use crate::stop::Stop;
@@ -103,6 +103,16 @@ impl Line {
         }
     }
 
+    fn push_numbered(&mut self, number: Option<usize>)
+        requires { length self.old + 20 ≤ 320 }
+        ensures bytes { self.new ≡ self.old ++ numbered number }
+        ensures short { length self.new ≤ length self.old + 20 }
+    {
+        if let Some(number) = number {
+            self.push_decimal(number);
+        }
+    }
+
     fn push_below(&mut self, bounds: Option<(usize, usize)>)
         requires { length self.old + 50 ≤ 320 }
         ensures bytes { self.new ≡ self.old ++ below bounds }
@@ -123,6 +133,7 @@ impl Line {
         self.push_place(stop.line());
         self.push(stop.before());
         self.push(stop.word());
+        self.push_numbered(stop.number());
         self.push_below(stop.bounds());
         self.push(LINE_FEED);
     }

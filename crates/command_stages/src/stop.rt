@@ -1,5 +1,5 @@
 ghost use Rattle.std.specs.Prelude.{◌≡◌, ◌≤◌, length};
-ghost use Rattle.command_stages.specs.Report.{status_of_refusal, status_of_stop, source_of, line_of_stop, before_of, word_of, bounds_of, kind_word, limit_word, quantity_word};
+ghost use Rattle.command_stages.specs.Report.{status_of_refusal, status_of_stop, source_of, line_of_stop, before_of, word_of, number_of, bounds_of, kind_word, limit_word, place_word, number_in, quantity_word};
 
 use chart_syntax::{Kind, Which};
 
@@ -27,6 +27,11 @@ pub enum Refusal {
     NoInput {
         name: usize,
     },
+    /// The implementation's signature is not the chart's: the first place that differs.
+    Unfit {
+        name: usize,
+        place: SignaturePlace,
+    },
     /// There is more of something than its limit.
     Beyond(Quantity),
     /// The bound is below the chart's number of states.
@@ -49,6 +54,19 @@ pub enum Quantity {
     Configurations,
     /// The product of steps.
     Steps,
+}
+
+/// A place in a signature. Inputs and outputs count from 1.
+#[derive(Clone, Copy, PartialEq, Eq, Debug)]
+pub enum SignaturePlace {
+    /// How many inputs there are.
+    Inputs,
+    /// The name or the range of an input.
+    Input(usize),
+    /// How many outputs there are.
+    Outputs,
+    /// The name of an output.
+    Output(usize),
 }
 
 /// What is read from.
@@ -81,7 +99,7 @@ impl Refusal {
         ensures { result ≡ status_of_refusal self }
     {
         match self {
-            Refusal::Fault { .. } | Refusal::NoInput { .. } => 3,
+            Refusal::Fault { .. } | Refusal::NoInput { .. } | Refusal::Unfit { .. } => 3,
             Refusal::Limit { .. } | Refusal::TooLong { .. } => 4,
             Refusal::Beyond(_) | Refusal::BoundBelow { .. } => 4,
         }
@@ -111,6 +129,7 @@ impl Stop {
             Stop::Refused(Refusal::Limit { name, .. }) => Some(Source::Word(name)),
             Stop::Refused(Refusal::TooLong { name }) => Some(Source::Word(name)),
             Stop::Refused(Refusal::NoInput { name }) => Some(Source::Word(name)),
+            Stop::Refused(Refusal::Unfit { name, .. }) => Some(Source::Word(name)),
             _ => None,
         }
     }
@@ -134,6 +153,7 @@ impl Stop {
         match self {
             Stop::Refused(Refusal::Limit { .. } | Refusal::TooLong { .. }) => b": limit ",
             Stop::Refused(Refusal::Fault { .. } | Refusal::NoInput { .. }) => b": ",
+            Stop::Refused(Refusal::Unfit { .. }) => b": unfit ",
             Stop::Refused(Refusal::Beyond(_)) => b"limit ",
             Stop::Unread(_) => b": ",
             _ => b"",
@@ -151,11 +171,22 @@ impl Stop {
             Stop::Refused(Refusal::Limit { which, .. }) => limit_word(which),
             Stop::Refused(Refusal::TooLong { .. }) => b"bytes",
             Stop::Refused(Refusal::NoInput { .. }) => b"no input",
+            Stop::Refused(Refusal::Unfit { place, .. }) => place_word(place),
             Stop::Refused(Refusal::Beyond(quantity)) => quantity_word(quantity),
             Stop::Refused(Refusal::BoundBelow { .. }) => b"bound ",
             Stop::Unread(_) => b"read fault",
             Stop::WriteFault => b"write fault",
             Stop::NoMemory => b"no memory",
+        }
+    }
+
+    /// The number that stands after the word.
+    pub fn number(self) -> Option<usize>
+        ensures { result ≡ number_of self }
+    {
+        match self {
+            Stop::Refused(Refusal::Unfit { place, .. }) => place.number(),
+            _ => None,
         }
     }
 
@@ -167,6 +198,31 @@ impl Stop {
             Stop::Refused(Refusal::BoundBelow { bound, states }) => Some((bound, states)),
             _ => None,
         }
+    }
+}
+
+impl SignaturePlace {
+    /// The number of the input or the output.
+    pub fn number(self) -> Option<usize>
+        ensures { result ≡ number_in self }
+    {
+        match self {
+            SignaturePlace::Input(number) | SignaturePlace::Output(number) => Some(number),
+            SignaturePlace::Inputs | SignaturePlace::Outputs => None,
+        }
+    }
+}
+
+/// The word for a place in a signature.
+pub fn place_word(place: SignaturePlace) -> &'static [u8]
+    ensures word { result.now ≡ place_word place }
+    ensures short { length result.now ≤ 20 }
+{
+    match place {
+        SignaturePlace::Inputs => b"inputs",
+        SignaturePlace::Input(_) => b"input ",
+        SignaturePlace::Outputs => b"outputs",
+        SignaturePlace::Output(_) => b"output ",
     }
 }
 

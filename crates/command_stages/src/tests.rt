@@ -1,6 +1,6 @@
 //! The words of the lines on `err`.
 use crate::stop::{kind_word, limit_word, quantity_word};
-use crate::{Line, Quantity, Refusal, Stop};
+use crate::{Line, Quantity, Refusal, SignaturePlace, Stop};
 use chart_syntax::{Kind, Which};
 
 #[test]
@@ -55,10 +55,18 @@ fn words_of_kinds_and_limits(rt: HostRuntime) {
     }
 }
 
+fn unfit(place: SignaturePlace) -> Refusal {
+    Refusal::Unfit { name: 4, place }
+}
+
 #[test]
 fn lines_of_refusals(rt: HostRuntime) {
     let refusals = [
         (Refusal::NoInput { name: 1 }, ": no input\n", 3),
+        (unfit(SignaturePlace::Inputs), ": unfit inputs\n", 3),
+        (unfit(SignaturePlace::Input(2)), ": unfit input 2\n", 3),
+        (unfit(SignaturePlace::Outputs), ": unfit outputs\n", 3),
+        (unfit(SignaturePlace::Output(8)), ": unfit output 8\n", 3),
         (Refusal::Beyond(Quantity::Steps), "limit steps\n", 4),
         (
             Refusal::BoundBelow {

@@ -1,12 +1,12 @@
--- The bound of a suite.
+-- The bound of a suite and of a run.
 use Rattle.std.proofs.Common.{◌≡◌, ℕ, ◌<◌, ◌≤◌, ◌-◌, Bool, true, false, ◌&&◌, if◌then◌else◌, nat_lt, List, [], ◌∷◌, length, codes, Option, Some, None, refl, sym, ◌∙◌, ap, subst, arith}
 use Rattle.std.specs.Prelude.{IfSome, nat_le}
 use Rattle.std.proofs.lemmas.Bool.{ltb-true, leb-true}
 use Rattle.command_words.specs.declared.command.Command.{Command}
-use Rattle.command_words.specs.declared.command.Command.TheVariants.{Suite}
+use Rattle.command_words.specs.declared.command.Command.TheVariants.{Suite, Run}
 use Rattle.command_words.specs.declared.command.Place.{Place}
 use Rattle.command_words.specs.declared.command.Place.TheVariants.{Text, Cuts, Bound}
-use Rattle.command_words.specs.Command.{IsBounded, bound_of, bound_at, fits_places, is_input, takes, suite_places, when}
+use Rattle.command_words.specs.Command.{IsBounded, bound_of, bound_at, fits_places, is_input, takes, suite_places, run_places, when}
 
 and_first : (a b : Bool) → (a && b) ≡ true → a ≡ true
 and_first true b h = refl
@@ -20,25 +20,30 @@ if_last : (c a b d : Bool) → (if c then a && d else (b && d)) ≡ true → d �
 if_last true a b d h = and_second a d h
 if_last false a b d h = and_second b d h
 
-at_bound : (left : ℕ) (words : List (List ℕ)) → fits_places left (Bound ∷ Cuts ∷ []) words ≡ true → (1 ≤ bound_at words 0) × (bound_at words 0 ≤ 1024)
-at_bound left [] h = absurd cc
-at_bound left (word ∷ words) h =
-    let taken : (nat_lt 0 (bound_of word) && nat_le (bound_of word) 1024) ≡ true = and_first (takes Bound word) (fits_places left (Cuts ∷ []) words) h in
+at_bound : (left : ℕ) (rest : List Place) (words : List (List ℕ)) → fits_places left (Bound ∷ rest) words ≡ true → (1 ≤ bound_at words 0) × (bound_at words 0 ≤ 1024)
+at_bound left rest [] h = absurd cc
+at_bound left rest (word ∷ words) h =
+    let taken : (nat_lt 0 (bound_of word) && nat_le (bound_of word) 1024) ≡ true = and_first (takes Bound word) (fits_places left rest words) h in
     let above : 0 < bound_of word = ltb-true 0 (bound_of word) (and_first (nat_lt 0 (bound_of word)) (nat_le (bound_of word) 1024) taken) in
     let below : bound_of word ≤ 1024 = leb-true (bound_of word) 1024 (and_second (nat_lt 0 (bound_of word)) (nat_le (bound_of word) 1024) taken) in
     (omega arith, below)
 
-after_name : (words : List (List ℕ)) → fits_places 1 suite_places words ≡ true → (1 ≤ bound_at words 1) × (bound_at words 1 ≤ 1024)
-after_name [] h = absurd cc
-after_name (word ∷ words) h = here (is_input Text word) h
+after_name : (rest : List Place) (words : List (List ℕ)) → fits_places 1 (Text ∷ Bound ∷ rest) words ≡ true → (1 ≤ bound_at words 1) × (bound_at words 1 ≤ 1024)
+after_name rest [] h = absurd cc
+after_name rest (word ∷ words) h = here (is_input Text word) h
   where
-    here : (input : Bool) → (if input then nat_lt 0 1 && fits_places (1 - 1) (Bound ∷ Cuts ∷ []) words else (takes Text word && fits_places 1 (Bound ∷ Cuts ∷ []) words)) ≡ true → (1 ≤ bound_at (word ∷ words) 1) × (bound_at (word ∷ words) 1 ≤ 1024)
-    here true k = at_bound (1 - 1) words (and_second (nat_lt 0 1) (fits_places (1 - 1) (Bound ∷ Cuts ∷ []) words) k)
-    here false k = at_bound 1 words (and_second (takes Text word) (fits_places 1 (Bound ∷ Cuts ∷ []) words) k)
+    here : (input : Bool) → (if input then nat_lt 0 1 && fits_places (1 - 1) (Bound ∷ rest) words else (takes Text word && fits_places 1 (Bound ∷ rest) words)) ≡ true → (1 ≤ bound_at (word ∷ words) 1) × (bound_at (word ∷ words) 1 ≤ 1024)
+    here true k = at_bound (1 - 1) rest words (and_second (nat_lt 0 1) (fits_places (1 - 1) (Bound ∷ rest) words) k)
+    here false k = at_bound 1 rest words (and_second (takes Text word) (fits_places 1 (Bound ∷ rest) words) k)
+
+-- a bound between a name and any other places
+within : (rest : List Place) (words : List (List ℕ)) (bound : ℕ) → true ≡ fits_places 1 (Text ∷ Bound ∷ rest) words → bound ≡ bound_at words 1 → (1 ≤ bound) × (bound ≤ 1024)
+within rest words bound is at = subst (λ b. (1 ≤ b) × (b ≤ 1024)) (sym at) (after_name rest words (sym is))
 
 pub bounded : (words : List (List ℕ)) (fits named : Bool) (bound : ℕ) (o : Option Command) → fits ≡ fits_places 1 suite_places words → bound ≡ bound_at words 1 → o ≡ when fits (Suite bound named) → IfSome o IsBounded
-bounded words true named bound o is at e =
-    let k = after_name words (sym is) in
-    let P : Option Command → Type 0 = λ x. IfSome x IsBounded in
-    subst P (sym e) (subst (λ b. (1 ≤ b) × (b ≤ 1024)) (sym at) k)
+bounded words true named bound o is at e = let P : Option Command → Type 0 = λ x. IfSome x IsBounded in subst P (sym e) (within (Cuts ∷ []) words bound is at)
 bounded words false named bound o is at e = let P : Option Command → Type 0 = λ x. IfSome x IsBounded in subst P (sym e) tt
+
+pub bounded_run : (words : List (List ℕ)) (fits named : Bool) (bound : ℕ) (o : Option Command) → fits ≡ fits_places 1 run_places words → bound ≡ bound_at words 1 → o ≡ when fits (Run bound named) → IfSome o IsBounded
+bounded_run words true named bound o is at e = let P : Option Command → Type 0 = λ x. IfSome x IsBounded in subst P (sym e) (within (Cuts ∷ Text ∷ []) words bound is at)
+bounded_run words false named bound o is at e = let P : Option Command → Type 0 = λ x. IfSome x IsBounded in subst P (sym e) tt

@@ -5,7 +5,9 @@ use Rattle.std.specs.List.{list_all}
 use Rattle.std.specs.Str.{bytes_eq}
 use Rattle.std.specs.Str.Parse.{digits_value}
 use Rattle.command_words.specs.declared.command.Command.{Command}
-use Rattle.command_words.specs.declared.command.Command.TheVariants.{Play, Classes, Suite}
+use Rattle.command_words.specs.declared.command.Command.TheVariants.{Play, Classes, Suite, Run}
+use Rattle.command_words.specs.declared.command.Verb.{Verb}
+use Rattle.command_words.specs.declared.command.Verb.TheVariants as verb
 use Rattle.command_words.specs.declared.command.Place.{Place}
 use Rattle.command_words.specs.declared.command.Place.TheVariants.{Text, Cuts, Bound}
 
@@ -63,24 +65,40 @@ classes_places = Text ∷ Cuts ∷ []
 abbrev pub suite_places : List Place
 suite_places = Text ∷ Bound ∷ Cuts ∷ []
 
+abbrev pub run_places : List Place
+run_places = Text ∷ Bound ∷ Cuts ∷ Text ∷ []
+
 abbrev pub when : Bool → Command → Option Command
 when true command = Some command
 when false command = None
 
--- play CHART WORD; classes CHART CUTS; suite CHART M CUTS
-abbrev pub command_of : List (List ℕ) → Option Command
-command_of [] = None
-command_of (verb ∷ words) =
-    if bytes_eq verb (codes "play") then when (fits_places 1 play_places words) Play
-    else if bytes_eq verb (codes "classes") then
-    when (fits_places 1 classes_places words) (Classes (names_text words 1))
-    else if bytes_eq verb (codes "suite") then
-    when (fits_places 1 suite_places words) (Suite (bound_at words 1) (names_text words 2))
+-- the command that a verb names
+abbrev pub verb_of : List ℕ → Option Verb
+verb_of word =
+    if bytes_eq word (codes "play") then Some verb.Play
+    else if bytes_eq word (codes "classes") then Some verb.Classes
+    else if bytes_eq word (codes "suite") then Some verb.Suite
+    else if bytes_eq word (codes "run") then Some verb.Run
     else None
 
--- the bound of a suite is from 1 to 1,024
+-- play CHART WORD; classes CHART CUTS; suite CHART M CUTS; run CHART M CUTS IMPL
+abbrev pub command_with : Option Verb → List (List ℕ) → Option Command
+command_with None words = None
+command_with (Some verb.Play) words = when (fits_places 1 play_places words) Play
+command_with (Some verb.Classes) words = when (fits_places 1 classes_places words) (Classes (names_text words 1))
+command_with (Some verb.Suite) words =
+    when (fits_places 1 suite_places words) (Suite (bound_at words 1) (names_text words 2))
+command_with (Some verb.Run) words =
+    when (fits_places 1 run_places words) (Run (bound_at words 1) (names_text words 2))
+
+abbrev pub command_of : List (List ℕ) → Option Command
+command_of [] = None
+command_of (verb ∷ words) = command_with (verb_of verb) words
+
+-- the bound of a suite or a run is from 1 to 1,024
 abbrev pub IsBounded : Command → Type 0
 IsBounded (Suite bound named) = (1 ≤ bound) × (bound ≤ 1024)
+IsBounded (Run bound named) = (1 ≤ bound) × (bound ≤ 1024)
 IsBounded other = Unit {0}
 
 -- the words are a command

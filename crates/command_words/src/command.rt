@@ -1,5 +1,5 @@
 ghost use Rattle.std.specs.Prelude.{◌≡◌, IfSome, map, string_bytes};
-ghost use Rattle.command_words.specs.Command.{IsBounded, command_of, fits_places, is_input, names_text, takes, when};
+ghost use Rattle.command_words.specs.Command.{IsBounded, command_of, command_with, fits_places, is_input, names_text, takes, verb_of, when};
 
 use crate::number::{bound_at, bound_of};
 
@@ -12,6 +12,17 @@ pub enum Command {
     Classes { cuts: bool },
     /// The suite of a chart for a bound from 1 to 1,024, with a text of cuts or without.
     Suite { bound: usize, cuts: bool },
+    /// The verdict on an implementation by the suite of a chart for a bound from 1 to 1,024, with a text of cuts or without.
+    Run { bound: usize, cuts: bool },
+}
+
+/// What the first word asks for.
+#[derive(Clone, Copy)]
+enum Verb {
+    Play,
+    Classes,
+    Suite,
+    Run,
 }
 
 /// What a word stands for.
@@ -33,6 +44,9 @@ const CLASSES: &[Place] = &[Place::Text, Place::Cuts];
 
 /// What the words after `suite` stand for.
 const SUITE: &[Place] = &[Place::Text, Place::Bound, Place::Cuts];
+
+/// What the words after `run` stand for.
+const RUN: &[Place] = &[Place::Text, Place::Bound, Place::Cuts, Place::Text];
 
 fn takes(place: Place, word: &str) -> bool
     ensures { result ≡ takes place word.now }
@@ -91,6 +105,48 @@ fn when(fits: bool, command: Command) -> Option<Command>
     if fits { Some(command) } else { None }
 }
 
+fn verb_of(word: &str) -> Option<Verb>
+    ensures { result ≡ verb_of word.now }
+{
+    if word == "play" {
+        return Some(Verb::Play);
+    }
+    if word == "classes" {
+        return Some(Verb::Classes);
+    }
+    if word == "suite" {
+        return Some(Verb::Suite);
+    }
+    if word == "run" {
+        return Some(Verb::Run);
+    }
+    None
+}
+
+// The command with these words after its verb.
+fn command_with(verb: Verb, words: &[String]) -> Option<Command>
+    ensures value { result ≡ command_with (Some verb) (map string_bytes words.now) }
+    ensures bound { IfSome result IsBounded }
+{
+    match verb {
+        Verb::Play => when(fits_places(1, PLAY, words), Command::Play),
+        Verb::Classes => {
+            let cuts = names_text(words, 1);
+            when(fits_places(1, CLASSES, words), Command::Classes { cuts })
+        }
+        Verb::Suite => {
+            let bound = bound_at(words, 1);
+            let cuts = names_text(words, 2);
+            when(fits_places(1, SUITE, words), Command::Suite { bound, cuts })
+        }
+        Verb::Run => {
+            let bound = bound_at(words, 1);
+            let cuts = names_text(words, 2);
+            when(fits_places(1, RUN, words), Command::Run { bound, cuts })
+        }
+    }
+}
+
 /// The command that the words are, if they are one.
 pub fn command_of(words: &[String]) -> Option<Command>
     ensures value { result ≡ command_of (map string_bytes words.now) }
@@ -98,21 +154,9 @@ pub fn command_of(words: &[String]) -> Option<Command>
 {
     match words {
         [] => None,
-        [verb, rest @ ..] => {
-            let verb = verb.as_str();
-            if verb == "play" {
-                return when(fits_places(1, PLAY, rest), Command::Play);
-            }
-            if verb == "classes" {
-                let cuts = names_text(rest, 1);
-                return when(fits_places(1, CLASSES, rest), Command::Classes { cuts });
-            }
-            if verb == "suite" {
-                let bound = bound_at(rest, 1);
-                let cuts = names_text(rest, 2);
-                return when(fits_places(1, SUITE, rest), Command::Suite { bound, cuts });
-            }
-            None
-        }
+        [verb, rest @ ..] => match verb_of(verb.as_str()) {
+            Some(verb) => command_with(verb, rest),
+            None => None,
+        },
     }
 }

@@ -15,6 +15,12 @@ fn suite(bound: usize) -> Option<Command> {
     Some(Command::Suite { bound, cuts })
 }
 
+/// The run without cuts for a bound.
+fn run(bound: usize) -> Option<Command> {
+    let cuts = false;
+    Some(Command::Run { bound, cuts })
+}
+
 fn words_of(alloc: Global, line: &str) -> Result<Vec<String>, AllocError> {
     let mut words = Vec::new(alloc);
     for word in line.split(' ') {
@@ -63,7 +69,24 @@ fn commands(rt: HostRuntime) -> Result<(), Fail> {
         ("classes  C", None),
         ("classes A ", None),
         ("Classes A C", None),
-        ("run A 2 none A", None),
+        ("run A 2 none A", run(2)),
+        ("run A 0002 none none", run(2)),
+        ("run - 1024 none A", run(1024)),
+        (
+            "run A 3 C -",
+            Some(Command::Run {
+                bound: 3,
+                cuts: true,
+            }),
+        ),
+        ("run - 2 - A", None),
+        ("run - 2 none -", None),
+        ("run A 2 none", None),
+        ("run A 2 none ", None),
+        ("run A 2 none A A", None),
+        ("run A 1025 none A", None),
+        ("run A 0 none A", None),
+        ("run A none none A", None),
         ("gen 0", None),
         ("", None),
     ];

@@ -1,3 +1,4 @@
+use Rattle.std.proofs.Common.{true, refl}
 use Rattle.std.proofs.lemmas.Result.{err_from_is_err_and}
 use Rattle.command_stages.proofs.Stages.{made_then, made_stop, made_exit, made_is, made_nothing, made_unknown}
 use Rattle.classtest.proofs.Piping.{suited}

@@ -1,0 +1,4 @@
+pub mod Implementing
+pub mod Fits
+pub mod Judging
+pub mod Proper
