@@ -1,17 +1,10 @@
-//! What texts read as, and the first line and check that refuses a text that is no table; the steps of a table; the
-//! first difference of two signatures.
+//! What texts read as, and the first line and check that refuses a text that is no table; the first difference of
+//! two signatures.
 use crate::{Table, Unfit, fits, read_table};
 use chart_syntax::ChartError;
-use lin_form::{Signature, Vector};
+use lin_form::Signature;
 use std::alloc::{AllocError, Global};
 use std::test::Fail;
-use subject::Plan;
-
-/// A table of an alarm with three states.
-const ALARM: &str =
-    "table 1/input v 0 10/output alarm/state L gives 0/state H gives 1/state T gives 1/\
-row L when v >= 8 gives 1 go H/row H when v <= 5 gives 0 go L/row H when v >= 8 gives 1 go T/\
-row T when v <= 5 gives 0 go L/row T when v >= 8 gives 0 go T/";
 
 /// Texts and what is wanted of each, with ` | ` between the two; `/` is a line feed. A table is told by its numbers of
 /// inputs, outputs, states and rows, and by the replies of its states.
@@ -108,27 +101,6 @@ fn tables(rt: HostRuntime) -> Result<(), Fail> {
         let text = text_of(rt.alloc(), written)?;
         let found = answer(rt.alloc(), text.as_str())?;
         assert_eq!(rt; found.as_str(), want, "{row}");
-    }
-    Ok(())
-}
-
-#[test]
-fn steps(rt: HostRuntime) -> Result<(), Fail> {
-    let alarm = table(rt.alloc(), ALARM)?;
-    let mut state = alarm.begin();
-    for (input, reply, next) in [
-        (7, 0, 0),
-        (8, 1, 1),
-        (6, 1, 1),
-        (9, 1, 2),
-        (6, 1, 2),
-        (8, 0, 2),
-        (5, 0, 0),
-    ] {
-        let step = alarm.advance(&state, &Vector::from_slice(rt.alloc(), &[input]));
-        assert_eq!(rt; step.reply.as_slice(), [reply].as_slice(), "{input}");
-        assert_eq!(rt; step.state, next, "{input}");
-        state = step.state;
     }
     Ok(())
 }

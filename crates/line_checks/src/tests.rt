@@ -22,16 +22,18 @@ x > 0 and (v | 0 | 3 Unknown
 ";
 
 fn signature(alloc: Global) -> Result<Signature, AllocError> {
-    let mut inputs = Vec::new(alloc);
-    for name in ["v", "w"] {
-        inputs.push(Input {
-            name: Name::from_bytes(name.as_bytes()),
-            lo: 0,
-            hi: 9,
-        })?;
-    }
-    let mut outputs = Vec::new(alloc);
-    outputs.push(Name::from_bytes(b"o"))?;
+    let first = Input {
+        name: Name::from_bytes(b"v"),
+        lo: 0,
+        hi: 9,
+    };
+    let second = Input {
+        name: Name::from_bytes(b"w"),
+        lo: 0,
+        hi: 9,
+    };
+    let inputs = vec![in alloc; first, second]?;
+    let outputs = vec![in alloc; Name::from_bytes(b"o")]?;
     Ok(Signature {
         inputs: Inputs::from_vec(inputs),
         outputs: Names::from_vec(outputs),
