@@ -1,7 +1,8 @@
 ghost use Rattle.std.specs.Prelude.{◌≡◌, ◌++◌, IfOk, OnOk, length, map};
+ghost use Rattle.lin_form.specs.Range.{AreWithin};
 ghost use Rattle.chart_model.specs.Guard.{comparisons_of, plain, truth_of_guard, IsReadableGuard};
 
-use lin_form::{Comparison, Vector, holds};
+use lin_form::{Comparison, Vector, holds, holds_within};
 use std::alloc::{AllocError, Global};
 use std::marker::Model;
 
@@ -51,6 +52,19 @@ impl Condition {
         ensures { result ≡ truth_of_guard self.now vector.now memory.now }
     {
         guard_holds(&self.guard, vector, memory)
+    }
+
+    /// Whether it is true, as `is_true` says, for numbers of ranges: in 64 bits.
+    pub fn is_true_within(&self, vector: &Vector, memory: &[i64; 4]) -> bool
+        requires readable { IsReadableGuard (length vector.now) self.now }
+        requires numbers { AreWithin 1000000 vector.now }
+        requires values { AreWithin 1000 memory.now }
+        ensures { result ≡ truth_of_guard self.now vector.now memory.now }
+    {
+        match &self.guard {
+            Guard::Test(comparison) => holds_within(comparison, vector, memory),
+            guard => guard_holds_within(guard, vector, memory),
+        }
     }
 
     /// The comparisons in written order.
@@ -105,5 +119,37 @@ pub fn guard_holds(guard: &Guard, vector: &Vector, memory: &[i64; 4]) -> bool
         Guard::Or(left, right) => {
             guard_holds(left, vector, memory) || guard_holds(right, vector, memory)
         }
+    }
+}
+
+/// Whether the guard is true, as `guard_holds` says, for numbers of ranges: in 64 bits. The right side of `and` and `or`
+/// comes first, a comparison at once, so that a chain is gone through in a loop.
+pub fn guard_holds_within(guard: &Guard, vector: &Vector, memory: &[i64; 4]) -> bool
+    requires readable { IsReadableGuard (length vector.now) (plain guard.now) }
+    requires numbers { AreWithin 1000000 vector.now }
+    requires values { AreWithin 1000 memory.now }
+    ensures { result ≡ truth_of_guard (plain guard.now) vector.now memory.now }
+{
+    match guard {
+        Guard::Test(comparison) => holds_within(comparison, vector, memory),
+        Guard::Not(inner) => !guard_holds_within(inner, vector, memory),
+        Guard::And(left, right) => match &**right {
+            Guard::Test(comparison) => {
+                holds_within(comparison, vector, memory) && guard_holds_within(left, vector, memory)
+            }
+            right => {
+                guard_holds_within(right, vector, memory)
+                    && guard_holds_within(left, vector, memory)
+            }
+        },
+        Guard::Or(left, right) => match &**right {
+            Guard::Test(comparison) => {
+                holds_within(comparison, vector, memory) || guard_holds_within(left, vector, memory)
+            }
+            right => {
+                guard_holds_within(right, vector, memory)
+                    || guard_holds_within(left, vector, memory)
+            }
+        },
     }
 }

@@ -14,7 +14,7 @@ mod transition;
 pub use action::{Action, Place};
 pub use chart::Chart;
 pub use cuts::Cuts;
-pub use guard::{Condition, Guard, guard_holds};
+pub use guard::{Condition, Guard, guard_holds, guard_holds_within};
 pub use laws::comparisons_decide_guards;
 pub use state::{Memory, State};
 pub use transition::Transition;

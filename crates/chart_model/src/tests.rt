@@ -3,7 +3,7 @@ ghost use Rattle.std.specs.Prelude.{◌≤◌, IfOk};
 ghost use Rattle.lin_form.specs.Form.{size_of};
 ghost use Rattle.chart_model.specs.Guard.{plain, IsReadableGuard};
 
-use crate::{Guard, guard_holds};
+use crate::{Guard, guard_holds, guard_holds_within};
 use lin_form::{Comparison, Form, Relation, Vector};
 use std::alloc::{AllocError, Global};
 use std::test::Fail;
@@ -39,7 +39,9 @@ fn operators(rt: HostRuntime) -> Result<(), Fail> {
     let guard = exactly_as_or(rt.alloc())?;
     let vector = Vector::from_slice(rt.alloc(), &[0]);
     for (first, second, want) in [(0, 0, false), (0, 1, true), (1, 0, true), (1, 1, true)] {
-        assert_eq!(rt; guard_holds(&guard, &vector, &[first, second, 0, 0]), want);
+        let memory = [first, second, 0, 0];
+        assert_eq!(rt; guard_holds(&guard, &vector, &memory), want);
+        assert_eq!(rt; guard_holds_within(&guard, &vector, &memory), want);
     }
     Ok(())
 }
