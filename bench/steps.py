@@ -87,13 +87,13 @@ fn parent_of(kind: &str, state: usize) -> Option<usize> {
 }
 
 // 64 states with 256 transitions. Those of the state 0 come last of all, and of these the last alone is enabled; of a
-// ring each state's last is.
+// ring each state's last is. Of a guard of 64 comparisons the first alone is not true, which is looked at last.
 fn large(rt: &impl Abort, alloc: Global, kind: &str) -> Result<Chart, AllocError> {
     let deep = kind == "deep" || kind == "chain";
     let entry: [Assignment; 1] = [(WARN, 1, 1)];
     let exit: [Assignment; 1] = [(BRAKE, 1, 0)];
     let mut closed = [ALWAYS; 64];
-    closed[63] = NEVER;
+    closed[0] = NEVER;
     let open = [ALWAYS; 64];
     let mut states: Vec<StateRow> = Vec::new(alloc);
     for state in 0..64 {
@@ -109,7 +109,7 @@ fn large(rt: &impl Abort, alloc: Global, kind: &str) -> Result<Chart, AllocError
             (true, true) => open.as_slice(),
             (true, false) => closed.as_slice(),
             (false, true) => &open[..1],
-            (false, false) => &closed[63..],
+            (false, false) => &closed[..1],
         };
         rows.push((source, tests, exit.as_slice(), Some(target), false))?;
     }

@@ -8,7 +8,7 @@ use Rattle.std.proofs.lemmas.Bool.Decides.{nat_tests}
 use Rattle.std.proofs.lemmas.List.{append_assoc, append-nil, length_push, drop_more, drop_all}
 use Rattle.std.proofs.lemmas.List.Folds.{find-append}
 use Rattle.std.proofs.lemmas.List.FromFn.{get_or-map-range_with_len, length-map-range_with_len}
-use Rattle.std.proofs.lemmas.Option.{same_Some}
+use Rattle.std.proofs.lemmas.Option.{same_Some, slice_get_within}
 use Rattle.chart_model.specs.declared.chart.Chart.{Chart}
 use Rattle.chart_model.specs.declared.state.State.{State}
 use Rattle.chart_model.specs.declared.transition.Transition.{Transition}
@@ -64,6 +64,9 @@ pub IsScanning-next : (chart : Chart) (leaf : ℕ) (vector memory : List ℤ) (r
 IsScanning-next chart leaf vector memory rows i row h is s =
     let here : drop i rows ≡ row ∷ drop (i + 1) rows = drop_more rows i row h ∙ ap (λ (r : Row). r ∷ drop (i + 1) rows) (sym is) in
     next_row chart leaf vector memory rows i row s.rest (subst (AllZip (IsRowOf chart leaf) s.rest) here s.zip) s.goes
+
+pub row_inside : (chart : Chart) (leaf : ℕ) (vector memory : List ℤ) (rows : List Row) (i : ℕ) (row : Row) → i < length rows → row ≡ get_or rows i row → IsScanning chart leaf vector memory rows i → row.transition < length chart.transitions
+row_inside chart leaf vector memory rows i row h is s = let n = IsScanning-next chart leaf vector memory rows i row h is s in slice_get_within chart.transitions row.transition n.transition n.is.is
 
 pub IsScanning-more : (chart : Chart) (leaf : ℕ) (vector memory : List ℤ) (rows : List Row) (i : ℕ) (row : Row) (n : IsNextRow chart leaf vector memory rows i row) → is_guard_true vector memory n.transition ≡ false → IsScanning chart leaf vector memory rows (i + 1)
 IsScanning-more chart leaf vector memory rows i row n fails = record {

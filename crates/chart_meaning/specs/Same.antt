@@ -82,4 +82,4 @@ same_configurations x y e =
 
 -- what a hasher is fed
 abbrev pub fed_by : Configuration → fed.HashWrites
-fed_by c = fed.u8 c.leaf ++ (fed.slice fed.i16 c.memory ++ (fed.slice fed.i64 c.outputs ++ fed.slice fed.u8 (codes_of c)))
+fed_by c = fed.u8 c.leaf ++ (fed.slice fed.i16 c.memory ++ (fed.slice fed.i64 c.outputs ++ codes_of c ∷ []))

@@ -189,6 +189,6 @@ impl Hash for Config {
         self.leaf.hash(state);
         self.memory_places().hash(state);
         self.outputs().hash(state);
-        self.last_codes().hash(state);
+        state.write(self.last_codes());
     }
 }

@@ -94,6 +94,7 @@ fn remember(chart: &Chart, state: usize, child: Option<u8>, config: &mut Config)
 }
 
 /// Does what a row's transition does.
+#[inline(never)]
 pub fn take_row(chart: &Chart, ways: &[Path], row: &Row, config: &mut Config)
     requires ways { AreWaysDown chart.now.states ways.now }
     requires row { IsRow chart.now config.old.leaf row.now }
@@ -101,7 +102,7 @@ pub fn take_row(chart: &Chart, ways: &[Path], row: &Row, config: &mut Config)
     ensures taken { ForSome (slice_get chart.now.transitions row.now.transition) (λ transition. config.new ≡ take_transition chart.now transition config.old) }
     ensures configuration { IsConfiguration chart.now config.new }
 {
-    let transition = &chart.transitions.as_slice()[row.transition];
+    let transition = &chart.transitions.as_slice()[row.transition as usize];
     match &row.route {
         Some(route) => go_to(chart, ways, transition, route, config),
         None => run(chart, transition.effect.as_slice(), config),
@@ -123,7 +124,8 @@ fn go_to(chart: &Chart, ways: &[Path], transition: &Transition, route: &Route, c
     exit_all(chart, exited, config);
     run(chart, effect, config);
     enter_all(chart, entered, config);
-    enter_below(chart, ways, route.target, transition.history, config);
+    let target = route.target as usize;
+    enter_below(chart, ways, target, transition.history, config);
 }
 
 /// Enters the states below a target that is entered.

@@ -6,7 +6,7 @@ use std::marker::Model;
 #[derive(Drop)]
 pub struct Path {
     states: [u8; 8],
-    len: usize,
+    len: u8,
 }
 
 impl Model for Path {
@@ -35,7 +35,7 @@ impl Path {
         requires { length self.old < 8 }
         ensures { self.new ≡ self.old ++ state ∷ [] }
     {
-        self.states[self.len] = state;
+        self.states[self.len as usize] = state;
         self.len += 1;
     }
 
@@ -43,7 +43,7 @@ impl Path {
     pub fn reverse(&mut self)
         ensures { self.new ≡ reverse self.old }
     {
-        let len = self.len;
+        let len = self.len as usize;
         self.states[..len].reverse();
     }
 
@@ -52,6 +52,6 @@ impl Path {
         ensures value { result.now ≡ self.now }
         ensures short { length self.now ≤ 8 }
     {
-        &self.states[..self.len]
+        &self.states[..self.len as usize]
     }
 }

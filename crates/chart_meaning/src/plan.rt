@@ -72,6 +72,7 @@ impl ChartPlan {
     }
 
     /// One step from a configuration, for a vector with one number per input, each in its input's range. It takes no memory.
+    #[inline(always)]
     pub fn step(&self, config: &Config, input: &Vector) -> Step<Config>
         requires fits { IsInInputRanges self.now.signature.inputs input.now }
         requires configuration { IsConfiguration self.now config.now }
@@ -79,13 +80,23 @@ impl ChartPlan {
         ensures reply { result.reply ≡ reply_of self.now config.now input.now }
         ensures configuration { IsConfiguration self.now result.state }
     {
-        let rows = &self.rows[config.leaf()];
         let mut state = *config;
-        if let Some(row) = firing(&self.chart, rows.as_slice(), config, input) {
-            take_row(&self.chart, self.ways.as_slice(), row, &mut state);
-        }
+        self.go_on(&mut state, input);
         let reply = Reply::from_slice(state.outputs());
         Step { state, reply }
+    }
+
+    /// Makes one step in place: the configuration becomes that to which `step` leads. It takes no memory.
+    pub fn go_on(&self, config: &mut Config, input: &Vector)
+        requires fits { IsInInputRanges self.now.signature.inputs input.now }
+        requires configuration { IsConfiguration self.now config.old }
+        ensures state { config.new ≡ next_of self.now config.old input.now }
+        ensures configuration { IsConfiguration self.now config.new }
+    {
+        let rows = &self.rows[config.leaf()];
+        if let Some(row) = firing(&self.chart, rows.as_slice(), config, input) {
+            take_row(&self.chart, self.ways.as_slice(), row, config);
+        }
     }
 }
 
@@ -105,6 +116,7 @@ impl Plan for ChartPlan {
         self.start()
     }
 
+    #[inline(always)]
     fn advance(&self, state: &Config, input: &Vector) -> Step<Config> {
         self.step(state, input)
     }

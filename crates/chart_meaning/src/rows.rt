@@ -14,7 +14,7 @@ use std::alloc::{AllocError, Global};
 /// The exits and entries between a leaf and a transition's target.
 #[derive(Drop)]
 pub struct Route {
-    pub target: usize,
+    pub target: u8,
     /// The active states that are exited, from the inside out.
     pub exited: Path,
     /// The states that are entered down to the target, outermost first.
@@ -25,7 +25,7 @@ pub struct Route {
 #[derive(Drop)]
 pub struct Row {
     /// Its number in written order.
-    pub transition: usize,
+    pub transition: u16,
     /// Where it has no target it has no route.
     pub route: Option<Route>,
 }
@@ -107,7 +107,10 @@ fn row_of(chart: &Chart, leaf: usize, transition: usize) -> Row
         Some(target) => Some(route_to(chart, written.source, target, leaf)),
         None => None,
     };
-    Row { transition, route }
+    Row {
+        transition: transition as u16,
+        route,
+    }
 }
 
 /// The route of a transition from source to target where the leaf is active.
@@ -125,7 +128,7 @@ fn route_to(chart: &Chart, source: usize, target: usize, leaf: usize) -> Route
     let mut entered = states_below(container, way_out(states, target));
     entered.reverse();
     Route {
-        target,
+        target: target as u8,
         exited,
         entered,
     }
