@@ -1,5 +1,6 @@
 //! Atoms of small charts, with lists that were worked out by hand from the inequalities of their guards.
 mod charts;
+mod largest;
 
 use crate::tests::charts::{Test, chart, cuts};
 use crate::{AtomError, assumed, atoms_of};
