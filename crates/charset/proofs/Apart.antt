@@ -1,13 +1,11 @@
 -- The shortlex-least word that two states answer differently.
-use Rattle.std.proofs.Common.{◌≡◌, ◌≢◌, ℕ, ◌+◌, ◌-◌, ◌*◌, ◌<◌, ◌≤◌, List, [], ◌∷◌, ◌++◌, length, get_or, take, drop, zero, suc, refl, ap, sym, ◌∙◌, ◌⊎◌, inl, inr, arith, append_assoc}
+use Rattle.std.proofs.Common.{◌≡◌, ◌≢◌, ℕ, ◌+◌, ◌-◌, ◌*◌, ◌<◌, ◌≤◌, List, [], ◌∷◌, ◌++◌, length, get_or, drop, refl, ap, sym, ◌∙◌, inl, inr, arith, append_assoc}
 use Rattle.std.proofs.lemmas.Bool.{cases_eq, cases_lt, cases_order}
-use Rattle.std.proofs.lemmas.Nat.{mul-le}
 use Rattle.std.proofs.lemmas.List.{append-nil, get_or-take, get_or-drop, length_push, nil_from_length}
 use Rattle.std.proofs.lemmas.List.Elements.{All-cons, All-nil, All-head, All-tail}
 use Rattle.fsm_core.specs.Machine.{Machine, IsMachine, IsWord, next, number}
 use Rattle.fsm_core.specs.Answers.{numbers}
 use Rattle.fsm_core.proofs.Machines.{row_inside}
-use Rattle.word_pool.specs.Order.{IsBelow}
 use Rattle.word_pool.specs.Order.{IsBefore, IsUpTo}
 use Rattle.charset.specs.inside.Levels.{AreAlikeOn, AreAlikeUpTo, AreLevels, IsGrouping, IsLeastApart, PartAt, level_at}
 use Rattle.charset.proofs.Leveling.{alike_letter, alike_none, letters_alike}

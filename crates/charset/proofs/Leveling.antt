@@ -1,13 +1,13 @@
 -- Groups by the words of at most k letters, level by level.
-use Rattle.std.proofs.Common.{◌≡◌, ◌≢◌, ℕ, ◌+◌, ◌*◌, ◌<◌, ◌≤◌, List, [], ◌∷◌, ◌++◌, length, get_or, take, drop, zero, suc, refl, ap, sym, ◌∙◌, ◌⊎◌, inl, inr, arith}
+use Rattle.std.proofs.Common.{◌≡◌, ℕ, ◌+◌, ◌*◌, ◌<◌, ◌≤◌, List, [], ◌∷◌, ◌++◌, length, get_or, take, drop, refl, ap, sym, ◌∙◌, inl, inr, arith}
 use Rattle.std.proofs.lemmas.Bool.{cases_eq, cases_lt}
 use Rattle.std.proofs.lemmas.Nat.{mul-le}
-use Rattle.std.proofs.lemmas.List.{length-append, take_at, take_all, take-append-le, drop_at, drop-append-le, length-drop, drop_all}
+use Rattle.std.proofs.lemmas.List.{length-append, take_all, take-append-le, drop_at, drop-append-le, length-drop}
 use Rattle.std.proofs.lemmas.List.Elements.{All-cons, All-nil, All-head, All-tail}
 use Rattle.fsm_core.specs.Machine.{Machine, IsMachine, IsWord, next, number}
-use Rattle.fsm_core.specs.Answers.{AnswerDifferently, IsReduced, numbers}
+use Rattle.fsm_core.specs.Answers.{IsReduced, numbers}
 use Rattle.fsm_core.proofs.Machines.{row_inside, answers_from_numbers}
-use Rattle.charset.specs.inside.Levels.{AreAlikeOn, AreAlikeOnAll, AreAlikeUpTo, AreLevels, IsGrouping, level_at}
+use Rattle.charset.specs.inside.Levels.{AreAlikeOnAll, AreAlikeUpTo, AreLevels, IsGrouping, level_at}
 use Rattle.charset.proofs.Grouping.{leaders, leaders_upto, leaders_some, more_or_same}
 
 module _ (m : Machine) (names : List ℕ) where

@@ -1,15 +1,14 @@
 -- The marks, one by one.
 use Rattle.std.proofs.Common.{◌≡◌, ◌≢◌, ℕ, ℤ, ◌+◌, ◌*◌, ◌<◌, ◌≤◌, List, [], ◌∷◌, ◌++◌, length, get_or, take, slice_get, Some, map, zero, suc, subst, refl, ap, sym, ◌∙◌, ◌⊎◌, inl, inr, All, arith}
-use Rattle.std.proofs.lemmas.Bool.{cases_eq, cases_lt}
+use Rattle.std.proofs.lemmas.Bool.{cases_lt}
 use Rattle.std.proofs.lemmas.List.{get_or_append_left, get_or_push, length_push, take-append-le, take_at, length-map, map-append}
 use Rattle.std.proofs.lemmas.Nat.{mul-le}
-use Rattle.std.proofs.lemmas.List.Elements.{All-from_get_or, All-get_or, All-push}
-use Rattle.std.proofs.lemmas.Option.{get_or_from_slice_get, same_Some, slice_get-get_or, slice_get_within}
+use Rattle.std.proofs.lemmas.List.Elements.{All-get_or, All-push}
+use Rattle.std.proofs.lemmas.Option.{get_or_from_slice_get, slice_get-get_or, slice_get_within}
 use Rattle.fsm_core.specs.Machine.{Machine, IsMachine, IsWord, state_after}
 use Rattle.fsm_core.specs.Answers.{answer_from, numbers}
 use Rattle.fsm_core.proofs.Machines.{answers_from_numbers, numbers_from_answers}
 use Rattle.word_pool.specs.Words.{word, Keeps}
-use Rattle.word_pool.specs.Order.{IsUpTo}
 use Rattle.word_pool.specs.Words.{AreIds, EntersAfter, AddsPrefixesOf, words_at}
 use Rattle.state_cover.specs.Cover.{IsCover}
 use Rattle.word_pool.proofs.CallerLemmas.{ids_kept, keeps_itself, keeps_on, prefixes_more, words_kept}

@@ -11,11 +11,13 @@ ghost use Rattle.suite_words.specs.Marks.{AreMarksBy};
 ghost use Rattle.charset.specs.Marks.{AreMarks};
 
 mod groups;
+mod laws;
 mod levels;
 mod separating;
 
 use fsm_core::Fsm;
 use groups::{first_pair, split_by};
+pub use laws::marks_are_few_and_short;
 use levels::levels_of;
 use separating::separating_word;
 use state_cover::CoverWords;

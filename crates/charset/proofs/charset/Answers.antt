@@ -1,4 +1,4 @@
-use Rattle.std.proofs.Common.{◌≡◌, ℕ, List, map}
+use Rattle.std.proofs.Common.{◌≡◌, map}
 use Rattle.fsm_core.specs.Machine.{state_after}
 use Rattle.word_pool.specs.Words.{words_at}
 use Rattle.word_pool.proofs.CallerLemmas.{words_kept}

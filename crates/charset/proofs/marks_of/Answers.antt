@@ -1,11 +1,11 @@
-use Rattle.std.proofs.Common.{◌≡◌, ℕ, ◌+◌, ◌<◌, ◌≤◌, List, [], length, get_or, replicate, refl, ap, sym, ◌∙◌, arith}
+use Rattle.std.proofs.Common.{◌≡◌, ℕ, ◌<◌, List, [], length, get_or, replicate, ap, ◌∙◌, arith}
 use Rattle.std.proofs.lemmas.List.{get_or-replicate, length-replicate, length-map, length_push}
 use Rattle.std.proofs.lemmas.Option.{get_or_from_slice_get}
 use Rattle.word_pool.specs.Words.{word}
 use Rattle.word_pool.proofs.CallerLemmas.{keeps_on}
-use Rattle.charset.specs.inside.Levels.{AreAlikeBy, IsFirstPair, IsGrouping, IsLeastApart, NoPair}
+use Rattle.charset.specs.inside.Levels.{AreAlikeBy, IsFirstPair, IsGrouping, IsLeastApart}
 use Rattle.charset.proofs.Grouping.{leaders_upto}
-use Rattle.charset.proofs.Marking.{IsCharting, charting_first, charting_more, grown_by, marking_all, room_left}
+use Rattle.charset.proofs.Marking.{charting_first, charting_more, grown_by, marking_all, room_left}
 use Rattle.charset.proofs.marks_of.Goals as goal
 
 pub loop-first-init : goal.loop-first-init

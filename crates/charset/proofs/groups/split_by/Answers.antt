@@ -1,4 +1,3 @@
-use Rattle.std.proofs.Common.{◌≡◌}
 use Rattle.charset.specs.inside.Levels.{AreAlikeBy, IsLeader}
 use Rattle.charset.proofs.Grouping.{grouping_more}
 use Rattle.charset.proofs.Marking.{by_chain, by_flip, by_itself}

@@ -1,8 +1,8 @@
-use Rattle.std.proofs.Common.{◌≡◌, ℕ, ◌+◌, ◌<◌, ◌++◌, List, length, get_or, replicate, ap, ◌∙◌, arith}
+use Rattle.std.proofs.Common.{◌≡◌, ℕ, ◌<◌, List, length, get_or, replicate, ap, ◌∙◌, arith}
 use Rattle.std.proofs.lemmas.List.{get_or-replicate, length-replicate}
 use Rattle.charset.specs.inside.Levels.{AreAlikeOnAll, IsGrouping}
 use Rattle.charset.proofs.Grouping.{leaders_upto}
-use Rattle.charset.proofs.Leveling.{IsLeveling, leveling_all, leveling_first, leveling_more}
+use Rattle.charset.proofs.Leveling.{leveling_all, leveling_first, leveling_more}
 use Rattle.charset.proofs.levels.levels_of.Goals as goal
 
 pub loop-alloc-init : goal.loop-alloc-init

@@ -1,4 +1,3 @@
-use Rattle.std.proofs.Common.{◌≡◌, ap, arith}
 use Rattle.charset.specs.inside.Levels.{AreAlikeOnAll, IsLeader}
 use Rattle.charset.proofs.Grouping.{grouping_more}
 use Rattle.charset.proofs.Leveling.{all_chain, all_flip, all_itself}

@@ -1,5 +1,3 @@
-use Rattle.std.proofs.Common.{◌≡◌, ◌≢◌, get_or, arith}
-use Rattle.charset.specs.inside.Levels.{level_at}
 use Rattle.charset.proofs.Apart.{parts_at}
 use Rattle.charset.proofs.separating.parting_level.Goals as goal
 

@@ -1,6 +1,5 @@
-use Rattle.std.proofs.Common.{◌≡◌, ℕ, ◌+◌, ◌-◌, ◌<◌, List, ◌∷◌, ◌++◌, ap, sym, arith}
-use Rattle.fsm_core.specs.Machine.{Machine}
-use Rattle.charset.specs.inside.Levels.{AreAlikeOn, AreAlikeUpTo, IsGrouping, PartAt, level_at}
+use Rattle.std.proofs.Common.{◌≡◌, ◌+◌, ◌-◌, arith}
+use Rattle.charset.specs.inside.Levels.{AreAlikeUpTo, IsGrouping}
 use Rattle.charset.proofs.Apart.{IsSeparating, separating_more, some_letter}
 use Rattle.charset.proofs.separating.separating_word.Goals as goal
 use Rattle.charset.proofs.separating.separating_word.Goals.{After-level_of}
