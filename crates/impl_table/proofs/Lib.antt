@@ -5,3 +5,4 @@ pub mod Keeping
 pub mod Whole
 pub mod Differences
 pub mod Steps
+pub mod Chaining

@@ -7,7 +7,7 @@ use Rattle.chart_model.specs.Guard.{IsReadableGuard}
 use Rattle.chart_model.proofs.GuardLemmas.{readable_guard}
 use Rattle.impl_table.specs.declared.table.Row.{Row}
 use Rattle.impl_table.specs.Table.{IsRow}
-use Rattle.impl_table.specs.Plan.{fires, first_row}
+use Rattle.impl_table.specs.Firing.{fires, first_row}
 use Rattle.impl_table.specs.inside.Lines.{IsReadableRow}
 
 pub readable_rows : (inputs outputs states numbers : ℕ) (rows : List Row) → inputs ≡ numbers → All (IsRow inputs outputs states) rows → All (IsReadableRow numbers) rows

@@ -1,4 +1,5 @@
 pub mod Table
+pub mod Firing
 pub mod Plan
 pub mod Fitting
 pub mod Forms

@@ -11,6 +11,7 @@ mod reader;
 mod refusal;
 mod reply;
 mod table;
+mod table_rows;
 mod take;
 #[cfg(test)]
 mod tests;
@@ -19,3 +20,4 @@ pub use fit::{Unfit, fits};
 pub use laws::table_or_refusal;
 pub use read::read_table;
 pub use table::{Row, Table, TableState};
+pub use table_rows::TableRows;

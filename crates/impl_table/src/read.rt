@@ -8,6 +8,7 @@ use crate::form::TableForm;
 use crate::reader::{Declared, begin};
 use crate::refusal::{LineRefusal, token_error};
 use crate::table::Table;
+use crate::table_rows::TableRows;
 use crate::take::take;
 use chart_syntax::{ChartError, Kind};
 use lin_form::{Input, Inputs, Name, Names, Signature};
@@ -66,6 +67,7 @@ fn table(alloc: Global, declared: Declared) -> Result<Table, AllocError>
     } = declared;
     let inputs = inputs(alloc, forms.as_slice())?;
     let outputs = names(alloc, outputs.as_slice())?;
+    let rows = TableRows::new(alloc, rows, states.len())?;
     Ok(Table {
         signature: Signature { inputs, outputs },
         states,

@@ -1,5 +1,6 @@
 ghost use Rattle.impl_table.specs.Table.{IsTable};
 
+use crate::table_rows::TableRows;
 use chart_model::Condition;
 use lin_form::{Name, Reply, Signature};
 use sqlite_items::Items;
@@ -26,6 +27,6 @@ pub struct Row {
 pub struct Table {
     pub signature: Signature,
     pub states: Items<TableState>,
-    pub rows: Items<Row>,
+    pub rows: TableRows,
     pub ghost kept: { IsTable signature states rows },
 }
