@@ -44,7 +44,7 @@ pub fn explore<P: Plan>(
     let mut states = IndexSet::new(alloc);
     let mut replies = IndexSet::new(alloc);
     let mut rows = Rows::with_capacity(alloc, classes.len())?;
-    let _start = number_of(&mut states, plan.begin(), 0)?;
+    let _start = number_of(&mut states, &plan.begin(), 0)?;
     let mut at = 0;
     while at < states.len() {
         expand(plan, classes, at, &mut states, &mut replies, &mut rows)?;
@@ -82,11 +82,11 @@ fn expand<P: Plan>(
     let mut reply = 0;
     for class in classes {
         let step = plan.advance(&state, &class.witness);
-        next = number_of(states, step.state, next)?;
+        next = number_of(states, &step.state, next)?;
         if next >= 1024 {
             return Err(ExploreError::TooManyConfigurations);
         }
-        reply = number_of(replies, step.reply, reply)?;
+        reply = number_of(replies, &step.reply, reply)?;
         rows.push(next, reply)?;
     }
     Ok(())

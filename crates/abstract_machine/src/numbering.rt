@@ -10,16 +10,16 @@ use std::hash::Hash;
 /// is looked up.
 pub fn number_of<K: Copy + Eq + Hash>(
     keys: &mut IndexSet<K>,
-    key: K,
+    key: &K,
     near: usize,
 ) -> Result<usize, AllocError>
-    ensures numbered { IfOk result (λ n. ((x y : K) → K.eq x y ≡ true → x ≡ y) → IsNumbered keys.old.keys key keys.new.keys n) }
+    ensures numbered { IfOk result (λ n. ((x y : K) → K.eq x y ≡ true → x ≡ y) → IsNumbered keys.old.keys key.now keys.new.keys n) }
     ensures unique { IsUnique K.eq keys.new }
 {
-    if is_at(keys.as_slice(), &key, near) {
+    if is_at(keys.as_slice(), key, near) {
         return Ok(near);
     }
-    let found = keys.insert_full(key)?;
+    let found = keys.insert_full(*key)?;
     Ok(found.0)
 }
 
