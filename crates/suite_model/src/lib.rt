@@ -2,8 +2,10 @@
 //! once for reading and printing it.
 #![tactic(auto)]
 
+mod replies;
 mod scratch;
 mod suite;
 
+pub use replies::Replies;
 pub use scratch::Scratch;
 pub use suite::{Suite, suite_keeps_rules};

@@ -1,12 +1,12 @@
 //! Suites.
-ghost use Rattle.std.specs.Prelude.{◌≡◌, ℕ, ◌+◌, ◌<◌, ◌≤◌, ◌++◌, length, drop, slice_get, Contains, Some, List};
+ghost use Rattle.std.specs.Prelude.{◌≡◌, ℕ, ◌+◌, ◌<◌, ◌≤◌, ◌++◌, length, take, drop, slice_get, Contains, Some, List};
 ghost use Rattle.std.specs.List.{All};
 ghost use Rattle.subject.specs.Suite.{SuiteParts, Test};
 ghost use Rattle.suite_model.specs.Suite.{IsSuite};
 ghost use Rattle.suite_model.specs.Pooled.{MakeSuite, lists, pooled_tests};
-ghost use Rattle.suite_model.specs.Scratch.{IsMadeFor};
+ghost use Rattle.suite_model.specs.Scratch.{IsMadeFor, HasTest};
 
-use crate::Scratch;
+use crate::{Replies, Scratch};
 use lin_form::{Reply, Signature, Vector};
 use std::marker::Model;
 use word_pool::{Pool, WordId};
@@ -23,7 +23,7 @@ pub struct Suite {
     marks: Vec<Vec<u16>>,
     pool: Pool,
     tests: Vec<WordId>,
-    replies: Vec<Reply>,
+    replies: Replies,
 }
 
 impl Model for Suite {
@@ -40,11 +40,11 @@ impl Model for Suite {
       classes = s.classes.items;
       cover = lists s.cover.items;
       marks = lists s.marks.items;
-      tests = pooled_tests s.pool.words s.replies.items s.tests.items;
+      tests = pooled_tests s.pool.words s.replies s.tests.items;
     } };
 
     ghost invariant = { λ s. ArePooled s.pool.words × MakeSuite s.signature s.classes.items (lists s.cover.items)
-        (lists s.marks.items) s.pool.words s.tests.items s.replies.items };
+        (lists s.marks.items) s.pool.words s.tests.items s.replies };
 }
 
 impl Suite {
@@ -71,6 +71,37 @@ impl Suite {
           cover = lists cover.items;
           marks = lists marks.items;
           tests = pooled_tests pool.words replies.items tests.items;
+        } in result ≡ parts }
+    {
+        let replies = Replies::each(replies);
+        Suite::from_replies(
+            signature, bound, states, classes, cover, marks, pool, tests, replies,
+        )
+    }
+
+    /// The suite of these parts, as `from_pool` makes it. The reply to the last letter of the word with number k stands at place k - 1 of
+    /// `replies`. It takes no memory.
+    pub fn from_replies(
+        signature: Signature,
+        bound: usize,
+        states: usize,
+        classes: Vec<Vector>,
+        cover: Vec<Vec<u16>>,
+        marks: Vec<Vec<u16>>,
+        pool: Pool,
+        tests: Vec<WordId>,
+        replies: Replies,
+    ) -> Suite
+        requires { MakeSuite signature classes.items (lists cover.items) (lists marks.items) pool.words
+            tests.items replies }
+        ensures { let parts : SuiteParts = record {
+          signature = signature;
+          bound = bound;
+          states = states;
+          classes = classes.items;
+          cover = lists cover.items;
+          marks = lists marks.items;
+          tests = pooled_tests pool.words replies tests.items;
         } in result ≡ parts }
     {
         let _count = pool.words();
@@ -165,6 +196,37 @@ impl Suite {
         scratch.put_word(&self.pool, id)
     }
 
+    /// Puts the letters and the replies of a test, counted from 0, into the scratch, and gives their number.
+    pub fn put_test(&self, test: usize, scratch: &mut Scratch) -> usize
+        requires test { test < length self.now.tests }
+        requires made { IsMadeFor self.now scratch.old }
+        ensures test { (t : Test) → slice_get self.now.tests test ≡ Some t → HasTest t result scratch.new }
+        ensures line { scratch.new.line ≡ scratch.old.line }
+        ensures room { scratch.new.room ≡ scratch.old.room }
+        ensures still_made { IsMadeFor self.now scratch.new }
+    {
+        let id = self.tests[test];
+        scratch.put_steps(&self.pool, id, &self.replies)
+    }
+
+    /// Puts the letters of a test, counted from 0, into the scratch, and gives their number and how many of the first
+    /// letters stood there before.
+    pub fn next_letters(&self, test: usize, scratch: &mut Scratch) -> (usize, usize)
+        requires test { test < length self.now.tests }
+        requires made { IsMadeFor self.now scratch.old }
+        ensures letters { (t : Test) → slice_get self.now.tests test ≡ Some t → (result.0 ≡ length t.letters)
+            × (scratch.new.letters ≡ t.letters ++ drop (length t.letters) scratch.old.letters) }
+        ensures within { result.1 ≤ result.0 }
+        ensures same { take result.1 scratch.new.letters ≡ take result.1 scratch.old.letters }
+        ensures line { scratch.new.line ≡ scratch.old.line }
+        ensures room { scratch.new.room ≡ scratch.old.room }
+        ensures ends { scratch.new.ends ≡ scratch.old.ends }
+        ensures still_made { IsMadeFor self.now scratch.new }
+    {
+        let id = self.tests[test];
+        scratch.put_next_word(&self.pool, id)
+    }
+
     /// The reply that is expected at a step of a test, both counted from 0.
     pub fn expected(&self, test: usize, step: usize) -> &Reply
         requires test { test < length self.now.tests }
@@ -174,7 +236,7 @@ impl Suite {
         let id = self.tests[test];
         let _length = self.pool.length(id);
         let id = self.pool.prefix(id, step + 1);
-        &self.replies[self.pool.number(id) - 1]
+        self.replies.at(self.pool.number(id) - 1)
     }
 
     /// Puts the letters of a cover word, counted from 0, into the scratch, and gives their number.

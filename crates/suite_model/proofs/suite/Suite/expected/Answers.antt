@@ -12,7 +12,7 @@ known : (tests : List Test) (words : List (List ℕ)) (rs : List (List ℤ)) (id
 known tests words rs ids i id step e inside read asked = asked _ (test_here words rs ids tests i id e inside read)
 
 within : (c : goal.After-length-length) → c.args.step < length (word c.self.inside.pool.words c.index-id.result.now)
-within c = known c.args.self.now.tests c.self.inside.pool.words c.self.inside.replies.items c.self.inside.tests.items c.args.test c.index-id.result.now c.args.step (ap (λ (p : SuiteParts). p.tests) c.self.view_is) c.requires.test c.index-id.ensures c.requires.step
+within c = known c.args.self.now.tests c.self.inside.pool.words c.self.inside.replies c.self.inside.tests.items c.args.test c.index-id.result.now c.args.step (ap (λ (p : SuiteParts). p.tests) c.self.view_is) c.requires.test c.index-id.ensures c.requires.step
 
 pub overflow_add-step : goal.overflow_add-step
 overflow_add-step c = let h = within c in omega arith
@@ -23,10 +23,10 @@ prefix-id-requires-clause-within c = let h = within c in omega arith
 pub number-requires : goal.number-requires
 number-requires c = slice_get_within _ _ _ c.prefix-id.ensures.word
 
-pub index-requires : goal.index-requires
-index-requires c =
+pub at-requires : goal.at-requires
+at-requires c =
     let ws = c.self.inside.pool.words in
-    let within = known c.args.self.now.tests ws c.self.inside.replies.items c.self.inside.tests.items c.args.test c.index-id.result.now c.args.step (ap (λ (p : SuiteParts). p.tests) c.self.view_is) c.requires.test c.index-id.ensures c.requires.step in
+    let within = known c.args.self.now.tests ws c.self.inside.replies c.self.inside.tests.items c.args.test c.index-id.result.now c.args.step (ap (λ (p : SuiteParts). p.tests) c.self.view_is) c.requires.test c.index-id.ensures c.requires.step in
     let some : 0 < c.prefix-id.result = number_some ws c.self.invariant.0 (word ws c.index-id.result.now) c.args.step c.prefix-id.result within c.prefix-id.ensures.word in
     let inside : c.prefix-id.result < length ws = slice_get_within _ _ _ c.prefix-id.ensures.word in
     omega (arith, c.self.invariant.1.one_each, c.number.ensures.number)
@@ -34,7 +34,7 @@ index-requires c =
 pub returns : goal.returns
 returns c = λ t e.
     let ws = c.self.inside.pool.words in
-    let rs = c.self.inside.replies.items in
+    let rs = c.self.inside.replies in
     let ids = c.self.inside.tests.items in
     let seen = ap (λ (p : SuiteParts). p.tests) c.self.view_is in
     let within = known c.args.self.now.tests ws rs ids c.args.test c.index-id.result.now c.args.step seen c.requires.test c.index-id.ensures c.requires.step in
@@ -42,5 +42,5 @@ returns c = λ t e.
     let inside : c.prefix-id.result < length ws = slice_get_within _ _ _ c.prefix-id.ensures.word in
     let same = same_Some _ _ (sym (test_here ws rs ids c.args.self.now.tests c.args.test c.index-id.result.now seen c.requires.test c.index-id.ensures) ∙ e) in
     ap (λ (t : Test). slice_get t.replies c.args.step) (sym same)
-    ∙ reply_read ws rs c.self.invariant.0 (word ws c.index-id.result.now) c.args.step c.prefix-id.result c.index.result.now within inside c.prefix-id.ensures.word
-    (omega (arith, c.self.invariant.1.one_each)) (rw (c.number.ensures.number) at c.index.ensures)
+    ∙ reply_read ws rs c.self.invariant.0 (word ws c.index-id.result.now) c.args.step c.prefix-id.result c.at.result.now within inside c.prefix-id.ensures.word
+    (omega (arith, c.self.invariant.1.one_each)) (rw (c.number.ensures.number) at c.at.ensures)

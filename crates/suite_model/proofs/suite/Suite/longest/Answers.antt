@@ -24,9 +24,9 @@ loop-test-preserved c = record {
 pub returns : goal.returns
 returns c = record {
   bound = subst (All (λ (t : Test). length t.letters ≤ c.loop-test.most)) (ap (λ (p : SuiteParts). p.tests) c.self.view_is)
-      (All-map (λ (t : Test). length t.letters ≤ c.loop-test.most) (λ i. pooled_test c.self.inside.pool.words c.self.inside.replies.items (word c.self.inside.pool.words i)) c.self.inside.tests.items
+      (All-map (λ (t : Test). length t.letters ≤ c.loop-test.most) (λ i. pooled_test c.self.inside.pool.words c.self.inside.replies (word c.self.inside.pool.words i)) c.self.inside.tests.items
       (all_taken (λ i. length (word c.self.inside.pool.words i) ≤ c.loop-test.most) c.self.inside.tests.items c.loop-test.test-index (rw (← c.as_slice-test-items.ensures.value) (omega arith)) c.loop-test.invariant.bounded));
-  reached = longest_reached c.self.inside.pool.words c.self.inside.replies.items c.self.inside.tests.items c.args.self.now.tests c.loop-test.most (ap (λ (p : SuiteParts). p.tests) c.self.view_is) c.loop-test.invariant.reached;
+  reached = longest_reached c.self.inside.pool.words c.self.inside.replies c.self.inside.tests.items c.args.self.now.tests c.loop-test.most (ap (λ (p : SuiteParts). p.tests) c.self.view_is) c.loop-test.invariant.reached;
 }
 
 pub loop-test-init : goal.loop-test-init

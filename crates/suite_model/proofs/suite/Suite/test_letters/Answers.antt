@@ -6,14 +6,14 @@ use Rattle.suite_model.specs.Pooled.{pooled_test}
 use Rattle.suite_model.proofs.Reading.{test_here, fits, answered, still_made}
 use Rattle.suite_model.proofs.suite.Suite.test_letters.Goals as goal
 
-here : (c : goal.After-put_word-arg-1) → slice_get c.args.self.now.tests c.args.test ≡ Some (pooled_test c.self.inside.pool.words c.self.inside.replies.items (word c.self.inside.pool.words c.index-id.result.now))
-here c = test_here c.self.inside.pool.words c.self.inside.replies.items c.self.inside.tests.items c.args.self.now.tests c.args.test c.index-id.result.now (ap (λ (p : SuiteParts). p.tests) c.self.view_is) c.requires.test c.index-id.ensures
+here : (c : goal.After-put_word-arg-1) → slice_get c.args.self.now.tests c.args.test ≡ Some (pooled_test c.self.inside.pool.words c.self.inside.replies (word c.self.inside.pool.words c.index-id.result.now))
+here c = test_here c.self.inside.pool.words c.self.inside.replies c.self.inside.tests.items c.args.self.now.tests c.args.test c.index-id.result.now (ap (λ (p : SuiteParts). p.tests) c.self.view_is) c.requires.test c.index-id.ensures
 
 room : (c : goal.After-put_word-arg-1) → length (word c.self.inside.pool.words c.index-id.result.now) ≤ length c.args.scratch.now.letters
 room c = fits (λ (t : Test). length t.letters ≤ length c.args.scratch.now.letters) c.args.self.now.tests c.args.test _ (here c) c.requires.made.tests
 
-here_then : (c : goal.After-put_word) → slice_get c.args.self.now.tests c.args.test ≡ Some (pooled_test c.self.inside.pool.words c.self.inside.replies.items (word c.self.inside.pool.words c.index-id.result.now))
-here_then c = test_here c.self.inside.pool.words c.self.inside.replies.items c.self.inside.tests.items c.args.self.now.tests c.args.test c.index-id.result.now (ap (λ (p : SuiteParts). p.tests) c.self.view_is) c.requires.test c.index-id.ensures
+here_then : (c : goal.After-put_word) → slice_get c.args.self.now.tests c.args.test ≡ Some (pooled_test c.self.inside.pool.words c.self.inside.replies (word c.self.inside.pool.words c.index-id.result.now))
+here_then c = test_here c.self.inside.pool.words c.self.inside.replies c.self.inside.tests.items c.args.self.now.tests c.args.test c.index-id.result.now (ap (λ (p : SuiteParts). p.tests) c.self.view_is) c.requires.test c.index-id.ensures
 
 room_then : (c : goal.After-put_word) → length (word c.self.inside.pool.words c.index-id.result.now) ≤ length c.args.scratch.now.letters
 room_then c = fits (λ (t : Test). length t.letters ≤ length c.args.scratch.now.letters) c.args.self.now.tests c.args.test _ (here_then c) c.requires.made.tests
