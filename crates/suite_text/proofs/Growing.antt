@@ -1,7 +1,7 @@
 -- A sink that takes the parts of a text one after another.
 use Rattle.std.proofs.Common.{codes, ◌≡◌, ℕ, ℤ, zero, suc, ◌+◌, ◌<◌, ◌≤◌, ◌*◌, List, [], ◌∷◌, ◌++◌, length, take, drop, map, get_or, Option, Some, None, refl, ap, sym, subst, ◌∙◌, append-nil, arith, slice_get, option_map, Err}
 use Rattle.std.specs.List.{flat_map}
-use Rattle.std.proofs.lemmas.List.{take_more, take_at, get_or-take, get_or_read, take-append-drop, length-map}
+use Rattle.std.proofs.lemmas.List.{take_more, take_at, get_or-take, get_or_read, take-append-drop, take-take, length-map}
 use Rattle.std.proofs.lemmas.List.Concat.{flat_map-append}
 use Rattle.std.proofs.lemmas.Option.{slice_get_within, slice_get-get_or, get_or_from_slice_get, slice_get-map, same_Some, none-some}
 use Rattle.test_world.specs.Growth.{IsLonger}
@@ -20,7 +20,7 @@ use Rattle.lin_form.specs.Range.{IsInRange}
 use Rattle.lin_form.specs.Signature.{IsInInputRanges, ranges_of, range_of}
 
 -- the parts up to one more
-front_more : {X : Type 0} (f : X → List ℕ) (xs : List X) (i : ℕ) (x : X) → slice_get xs i ≡ Some x → flat_map f (take (i + 1) xs) ≡ flat_map f (take i xs) ++ f x
+pub front_more : {X : Type 0} (f : X → List ℕ) (xs : List X) (i : ℕ) (x : X) → slice_get xs i ≡ Some x → flat_map f (take (i + 1) xs) ≡ flat_map f (take i xs) ++ f x
 front_more f xs i x e =
     ap (flat_map f) (take_more xs i x (slice_get_within xs i x e) ∙ ap (λ y. take i xs ++ y ∷ []) (get_or_from_slice_get xs i x x e))
     ∙ flat_map-append f (take i xs) (x ∷ []) ∙ ap (λ y. flat_map f (take i xs) ++ y) (append-nil (f x))
@@ -61,6 +61,25 @@ pub part_fails : {T E : Type 0} {X : Type 0} (f : X → List ℕ) (xs : List X) 
 part_fails f xs i x old between new e there first early next =
     let late : between.faults ≤ new.faults = next.later in
     record { put = (part_stop f xs i x old between new there first next.put.0, rose_before old.faults between.faults new.faults early next.put.1); later = omega arith }
+
+-- a line up to a later end
+cut_more : {A : Type 0} (a b : ℕ) (line : List A) → a ≤ b → take b line ≡ take a line ++ drop a (take b line)
+cut_more a b line small = sym (take-append-drop a (take b line)) ∙ ap (λ x. x ++ drop a (take b line)) (take-take a b line small)
+
+pub cut_grows : (a b : ℕ) (line : List ℕ) (old between new : Option (List ℕ)) → a ≤ b → IsLonger old between (take a line) → IsLonger between new (drop a (take b line)) → IsLonger old new (take b line)
+cut_grows a b line old between new small first next = subst (IsLonger old new) (sym (cut_more a b line small)) (grows_by_both old between new _ _ first next)
+
+-- the exit of a loop at a cut of a line that was not put whole
+pub cut_fails : {T E : Type 0} (a b : ℕ) (line : List ℕ) (old between new : SinkState) (e : E) → a ≤ b → Grows old between (take a line) → old.faults ≤ between.faults
+    → Puts {T = T} {E = E} between new (drop a (take b line)) (Err e) → Puts {T = T} {E = E} old new line (Err e)
+cut_fails a b line old between new e small first early next =
+    let late : between.faults ≤ new.faults = next.later in
+    let upto = prefix_after old between new _ _ first next.put.0 in
+    let whole : (take a line ++ drop a (take b line)) ++ drop b line ≡ line = ap (λ x. x ++ drop b line) (sym (cut_more a b line small)) ∙ take-append-drop b line in
+    record {
+      put = (subst (GrowsByPrefix old new) whole (prefix_before old new _ (drop b line) upto), rose_before old.faults between.faults new.faults early next.put.1);
+      later = omega arith;
+    }
 
 abbrev pub no_test : Test
 no_test = record { letters = []; replies = [] }

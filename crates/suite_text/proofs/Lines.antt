@@ -8,13 +8,14 @@ use Rattle.strict_lines.specs.Lines.{Token, spelled, tail_text}
 use Rattle.suite_text.specs.inside.Lines.{Pushes}
 
 pub pushes_none : (p : Place) → Pushes p p []
-pushes_none p = record { line = sym (append-nil p.line); letters = refl; room = refl }
+pushes_none p = record { line = sym (append-nil p.line); letters = refl; room = refl; ends = refl }
 
 pub pushes_more : {old mid new : Place} {a b c : List ℕ} → Pushes old mid a → Pushes mid new b → c ≡ a ++ b → Pushes old new c
 pushes_more {old} {mid} {new} {a} {b} {c} p q e = record {
   line = q.line ∙ ap (λ x. x ++ b) p.line ∙ append_assoc old.line a b ∙ ap (λ x. old.line ++ x) (sym e);
   letters = q.letters ∙ p.letters;
   room = q.room ∙ p.room;
+  ends = q.ends ∙ p.ends;
 }
 
 -- the tail of one more token

@@ -1,3 +1,4 @@
 -- What functions of this crate promise one another.
 pub mod Lines
 pub mod Parts
+pub mod Steps

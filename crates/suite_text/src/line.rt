@@ -1,5 +1,5 @@
 //! Lines of a suite's text, made in a scratch: a letter takes at most 6 bytes with its space, a number at most 21.
-ghost use Rattle.std.specs.Prelude.{◌≡◌, ◌+◌, ◌*◌, ◌<◌, ◌≤◌, ◌++◌, ◌∷◌, [], length, take, slice_index};
+ghost use Rattle.std.specs.Prelude.{◌≡◌, ◌+◌, ◌*◌, ◌<◌, ◌≤◌, ◌++◌, ◌∷◌, [], length, take, slice_index, codes};
 ghost use Rattle.std.specs.Fmt.{decimal, signed_decimal};
 ghost use Rattle.strict_lines.specs.Lines.{line_text, tail_text};
 ghost use Rattle.suite_model.specs.Text.{numbers, letters, natural_line, input_line, output_line, class_line, letters_line, step_line};
@@ -142,15 +142,26 @@ pub fn set_letters(scratch: &mut Scratch, word: &[u8], count: usize)
     scratch.push(b'\n');
 }
 
-/// Sets the line of a step.
-pub fn set_step(scratch: &mut Scratch, vector: &[i64], reply: &[i64])
-    requires room { 320 ≤ scratch.old.room }
+/// Pushes the line of a test of the first `count` letters that the scratch holds.
+pub fn push_test(scratch: &mut Scratch, count: usize)
+    requires count { count ≤ length scratch.old.letters }
+    requires room { length scratch.old.line + 6 * count + 10 ≤ scratch.old.room }
+    ensures { Pushes scratch.old scratch.new (line_text (letters_line (codes "test") (take count scratch.old.letters))) }
+{
+    scratch.push_all(b"test");
+    push_letters(scratch, count);
+    scratch.push(b'\n');
+}
+
+/// Pushes the line of a step.
+pub fn push_step(scratch: &mut Scratch, vector: &[i64], reply: &[i64])
+    requires room { length scratch.old.line + 320 ≤ scratch.old.room }
     requires some { 0 < length vector.now }
     requires few { length vector.now ≤ 6 }
     requires few_replies { length reply.now ≤ 8 }
-    ensures { Sets scratch.old scratch.new (line_text (step_line vector.now reply.now)) }
+    ensures pushes { Pushes scratch.old scratch.new (line_text (step_line vector.now reply.now)) }
+    ensures short { length scratch.new.line ≤ length scratch.old.line + 320 }
 {
-    scratch.clear();
     push_bare(scratch, vector[0]);
     push_numbers(scratch, &vector[1..]);
     push_word(scratch, b"/");

@@ -1,14 +1,17 @@
 //! Writing a suite.
-ghost use Rattle.std.specs.Prelude.{◌≡◌, ℕ, ◌+◌, ◌*◌, ◌<◌, ◌≤◌, ◌++◌, length, List, slice_get, Some, take};
+ghost use Rattle.std.specs.Prelude.{◌≡◌, ℕ, ◌+◌, ◌*◌, ◌<◌, ◌≤◌, ◌++◌, length, List, slice_get, Some, take, IfOk};
 ghost use Rattle.std.specs.List.{flat_map};
 ghost use Rattle.subject.specs.Suite.{Test};
 ghost use Rattle.suite_model.specs.Scratch.{IsMadeFor};
 ghost use Rattle.strict_lines.specs.Lines.{Token, line_text};
-ghost use Rattle.suite_model.specs.Text.{natural_line, step_lines, test_lines, suite_text};
+ghost use Rattle.suite_model.specs.Text.{natural_line, test_lines, suite_text};
 ghost use Rattle.suite_text.specs.inside.Parts.{text_of, rows, tests_text, part_text};
+ghost use Rattle.suite_text.specs.inside.Steps.{HaveSteps, IsStepsText, HoldsTest, HoldsSteps};
 ghost use Rattle.test_world.specs.Sink.{Puts};
 
-use crate::line::{set_class, set_input, set_letters, set_natural, set_output, set_step};
+use crate::line::{
+    push_step, push_test, set_class, set_input, set_letters, set_natural, set_output,
+};
 use suite_model::{Scratch, Suite, suite_keeps_rules};
 use test_world::{Fault, Sink, put_all};
 
@@ -122,31 +125,58 @@ fn put_natural<K: Sink>(
     put_all(out, scratch.line())
 }
 
-/// Puts the step lines of a test whose letters the scratch holds.
-fn put_steps<K: Sink>(
-    suite: &Suite,
-    test: usize,
-    count: usize,
-    scratch: &mut Scratch,
-    out: &mut K,
-) -> Result<(), Fault>
+/// Pushes the step lines of a test, whose letters the scratch holds, behind those of its first `from` steps.
+fn push_steps(suite: &Suite, test: usize, from: usize, count: usize, scratch: &mut Scratch)
     requires test { test < length suite.now.tests }
     requires made { IsMadeFor suite.now scratch.old }
+    requires from { from ≤ count }
     requires letters { (t : Test) → slice_get suite.now.tests test ≡ Some t
         → (count ≡ length t.letters) × (take count scratch.old.letters ≡ t.letters) }
-    ensures puts { (t : Test) → slice_get suite.now.tests test ≡ Some t →
-        Puts (K.state out.old) (K.state out.new) (text_of (step_lines suite.now.classes t.letters t.replies)) result }
+    requires steps { (t : Test) → slice_get suite.now.tests test ≡ Some t
+        → HaveSteps suite.now.classes t from scratch.old }
+    ensures steps { (t : Test) → slice_get suite.now.tests test ≡ Some t
+        → HaveSteps suite.now.classes t count scratch.new }
+    ensures letters { scratch.new.letters ≡ scratch.old.letters }
     ensures made { IsMadeFor suite.now scratch.new }
 {
     suite_keeps_rules(suite);
-    for step in 0..count {
+    scratch.has_text_room();
+    for step in from..count {
         let letter = scratch.letter(step) as usize;
-        set_step(
+        push_step(
             scratch,
             suite.classes()[letter].as_slice(),
             suite.expected(test, step).as_slice(),
         );
-        match put_all(out, scratch.line()) {
+        scratch.keep_end(step + 1);
+    }
+}
+
+/// Sets the line to the step lines of a test, and gives their number. Of the `before` steps that the scratch holds those
+/// stay that the test begins with.
+fn set_steps(suite: &Suite, test: usize, before: usize, scratch: &mut Scratch) -> usize
+    requires test { test < length suite.now.tests }
+    requires made { IsMadeFor suite.now scratch.old }
+    requires before { HoldsSteps suite.now before scratch.old }
+    ensures steps { (t : Test) → slice_get suite.now.tests test ≡ Some t → HoldsTest suite.now t result scratch.new }
+    ensures made { IsMadeFor suite.now scratch.new }
+{
+    suite_keeps_rules(suite);
+    let (count, same) = suite.next_letters(test, scratch);
+    let from = same.min(before);
+    scratch.back_to(from);
+    push_steps(suite, test, from, count, scratch);
+    count
+}
+
+/// Puts the line that the scratch holds, the text of `count` steps, one step at a time.
+fn put_steps<K: Sink>(count: usize, scratch: &Scratch, out: &mut K) -> Result<(), Fault>
+    requires count { count < length scratch.now.ends }
+    requires steps { IsStepsText count scratch.now }
+    ensures { Puts (K.state out.old) (K.state out.new) scratch.now.line result }
+{
+    for step in 0..count {
+        match put_all(out, scratch.step_line(step)) {
             Ok(()) => {}
             Err(fault) => return Err(fault),
         }
@@ -154,37 +184,51 @@ fn put_steps<K: Sink>(
     Ok(())
 }
 
-/// Puts the lines of a test.
+/// Puts the lines of a test, where the scratch holds `before` steps of another. Gives how many it holds then.
 fn put_test<K: Sink>(
     suite: &Suite,
     test: usize,
+    before: usize,
     scratch: &mut Scratch,
     out: &mut K,
-) -> Result<(), Fault>
+) -> Result<usize, Fault>
     requires test { test < length suite.now.tests }
     requires made { IsMadeFor suite.now scratch.old }
+    requires before { HoldsSteps suite.now before scratch.old }
     ensures puts { (t : Test) → slice_get suite.now.tests test ≡ Some t →
         Puts (K.state out.old) (K.state out.new) (text_of (test_lines suite.now.classes t)) result }
     ensures made { IsMadeFor suite.now scratch.new }
+    ensures holds { IfOk result (λ n. HoldsSteps suite.now n scratch.new) }
 {
-    let count = suite.test_letters(test, scratch);
-    set_letters(scratch, b"test", count);
-    match put_all(out, scratch.line()) {
+    let count = set_steps(suite, test, before, scratch);
+    let end = scratch.line().len();
+    scratch.has_text_room();
+    push_test(scratch, count);
+    match put_all(out, &scratch.line()[end..]) {
         Ok(()) => {}
         Err(fault) => return Err(fault),
     }
-    put_steps(suite, test, count, scratch, out)
+    scratch.back_to(count);
+    match put_steps(count, scratch, out) {
+        Ok(()) => {}
+        Err(fault) => return Err(fault),
+    }
+    Ok(count)
 }
 
-/// Puts the lines of all tests.
+/// Puts the lines of all tests. A test's step lines are made only where the test before it has others.
 fn put_tests<K: Sink>(suite: &Suite, scratch: &mut Scratch, out: &mut K) -> Result<(), Fault>
     requires { IsMadeFor suite.now scratch.old }
     ensures puts { Puts (K.state out.old) (K.state out.new) (tests_text suite.now) result }
     ensures made { IsMadeFor suite.now scratch.new }
 {
+    scratch.has_text_room();
+    scratch.clear();
+    scratch.keep_end(0);
+    let mut before = 0;
     for test in 0..suite.tests() {
-        match put_test(suite, test, scratch, out) {
-            Ok(()) => {}
+        match put_test(suite, test, before, scratch, out) {
+            Ok(count) => before = count,
             Err(fault) => return Err(fault),
         }
     }

@@ -13,6 +13,7 @@ returns-clause-pushes c = record {
   line = rw (c.push_all.ensures.line, c.push.ensures.line, c.as_bytes.ensures.value, c.format.ensures.text, c.letter.ensures) (append_assoc c.args.scratch.now.line (32 ∷ []) _);
   letters = c.push_all.ensures.letters ∙ c.push.ensures.letters;
   room = c.push_all.ensures.room ∙ c.push.ensures.room;
+  ends = c.push_all.ensures.ends ∙ c.push.ensures.ends;
 }
 
 pub returns-clause-short : goal.returns-clause-short
