@@ -1,8 +1,9 @@
 -- One more reply, and what the replies come to.
-use Rattle.std.proofs.Common.{◌≡◌, ℕ, zero, suc, ◌+◌, ◌-◌, ◌<◌, ◌≤◌, ◌⊎◌, inl, inr, List, [], ◌∷◌, ◌++◌, length, take, map, get_or, refl, sym, ap, ◌∙◌, subst, arith, ℤ, append_assoc, length-append, Some, slice_get, Vec}
+use Rattle.std.proofs.Common.{◌≡◌, ℕ, zero, suc, ◌+◌, ◌-◌, ◌*◌, ◌/◌, ◌%◌, ◌<◌, ◌≤◌, ◌⊎◌, inl, inr, List, [], ◌∷◌, ◌++◌, length, take, map, get_or, refl, sym, ap, ◌∙◌, subst, arith, ℤ, append_assoc, length-append, Some, slice_get, Vec}
 use Rattle.std.specs.List.{All}
 use Rattle.std.proofs.lemmas.List.{same_from_push, map-append, length-map, get_or_append_left, get_or_push, get_or_read, map_more}
-use Rattle.std.proofs.lemmas.Bool.{cases_lt}
+use Rattle.std.proofs.lemmas.Bool.{cases_eq, cases_lt}
+use Rattle.std.proofs.lemmas.Nat.{div-mul-add, mod-mul-add}
 use Rattle.std.proofs.lemmas.List.Elements.{All-contains, All-weaker, All-head, All-tail, All-map, All-nil, Contains-get_or}
 use Rattle.std.proofs.lemmas.Option.{slice_get_within, get_or_from_slice_get, same_Some}
 use Rattle.lin_form.specs.Atom.{IsAsSaid}
@@ -16,7 +17,7 @@ use Rattle.suite_model.specs.Pooled.{MakeSuite, lists, pooled_tests, replies_fro
 use Rattle.suite_model.proofs.CallerLemmas.{IsThere, prefix_in, not_first, reply_at}
 use Rattle.word_pool.specs.Words.{word, words_at, AreIds, ArePooled}
 use Rattle.concretise.specs.Concrete.{AreSuiteWords, answered}
-use Rattle.concretise.specs.inside.Replies.{AreReplies, AreRepliesBelow, IsNumbered, reply_of, state_of}
+use Rattle.concretise.specs.inside.Replies.{AreMet, AreReplies, AreRepliesBelow, IsMet, IsNumbered, reply_of, state_of}
 use Rattle.concretise.proofs.Keys.{got_last, got_left}
 
 -- the word with number n is that with number `at` and one letter more
@@ -113,6 +114,100 @@ module _ {S : Type 0} (m : Meaning S) (vs : List (List ℤ)) where
             let both = same_from_push _ _ _ _ (sym step.is ∙ ap (word words) (sym same) ∙ e) in
             got_last replies y (k - 1) (omega (arith, h.one_less, same))
             ∙ ap Some (reply ∙ ap (λ z. m.reply z x) state_is ∙ ap (m.reply (state_of m vs (word words at))) vector_is ∙ ap (λ v. m.reply (state_of m vs v) (vector_of a)) both.0 ∙ ap (λ c. m.reply (state_of m vs u) (vector_of c)) both.1)
+
+    -- the reply is that to a word that was met
+    pub replies_again : (at a p i k j : ℕ) (y : List ℤ) → IsNextWord words n at a → p ≡ get_or places at p → a < length vs → i ≡ p * length vs + a → IsMet m vs words n states i k → 0 < k →
+        j ≡ get_or places k j → y ≡ get_or replies (k - 1) y → AreRepliesBelow m vs words (n + 1) states (places ++ j ∷ []) (replies ++ y ∷ [])
+    replies_again at a p i k j y step read_p below pair met some read_j read_y = record {
+      many = omega (arith, length-append places (j ∷ []), h.many);
+      few = omega (arith, h.few);
+      one_less = omega (arith, length-append replies (y ∷ []), h.one_less);
+      states_are = λ l small. state_at l small (cases_lt l n);
+      replies_are = λ l u b positive small e. reply_for l u b positive e small (cases_lt l n);
+    }
+      where
+        pairs : met.place * length vs + met.letter ≡ p * length vs + a
+        pairs = sym met.pair ∙ pair
+
+        place_same : met.place ≡ p
+        place_same = sym (div-mul-add met.place (length vs) met.letter met.inside) ∙ ap (λ x. x / length vs) pairs ∙ div-mul-add p (length vs) a below
+
+        letter_same : met.letter ≡ a
+        letter_same = sym (mod-mul-add met.place (length vs) met.letter met.inside) ∙ ap (λ x. x % length vs) pairs ∙ mod-mul-add p (length vs) a below
+
+        state_same : state_of m vs met.before ≡ state_of m vs (word words at)
+        state_same =
+            let place : p ≡ get_or places at 0 = get_or_read places at p (omega (arith, step.lower, h.many)) read_p 0 in
+            same_Some _ _ (sym met.at ∙ ap (slice_get states) (place_same ∙ place) ∙ h.states_are at step.lower)
+
+        next_same : state_of m vs (word words k) ≡ state_of m vs (word words n)
+        next_same = ap (state_of m vs) met.is ∙ state_push met.before met.letter ∙ ap (λ s. m.next s (vector_of met.letter)) state_same ∙ ap (λ b. m.next (state_of m vs (word words at)) (vector_of b)) letter_same
+            ∙ sym (state_push (word words at) a) ∙ ap (state_of m vs) (sym step.is)
+
+        reply_same : y ≡ reply_of m vs (word words at) a
+        reply_same = read_y ∙ get_or_from_slice_get replies (k - 1) _ y (h.replies_are k met.before met.letter some met.lower met.is)
+            ∙ ap (λ s. m.reply s (vector_of met.letter)) state_same ∙ ap (λ b. m.reply (state_of m vs (word words at)) (vector_of b)) letter_same
+
+        place_of : j ≡ get_or places k 0
+        place_of = get_or_read places k j (omega (arith, met.lower, h.many)) read_j 0
+
+        state_at : (l : ℕ) → l < n + 1 → (l < n) ⊎ (n ≤ l) → slice_get states (get_or (places ++ j ∷ []) l 0) ≡ Some (state_of m vs (word words l))
+        state_at l small (inl lower) = ap (slice_get states) (get_or_append_left places (j ∷ []) 0 l (omega (arith, lower, h.many))) ∙ h.states_are l lower
+        state_at l small (inr g) =
+            let same : l ≡ n = omega (arith, small, g) in
+            ap (slice_get states) (ap (λ x. get_or (places ++ j ∷ []) x 0) same ∙ get_or_push places j 0 n h.many ∙ place_of) ∙ h.states_are k met.lower ∙ ap Some (next_same ∙ ap (λ x. state_of m vs (word words x)) (sym same))
+
+        reply_for : (l : ℕ) (u : List ℕ) (b : ℕ) → 0 < l → word words l ≡ u ++ b ∷ [] → l < n + 1 → (l < n) ⊎ (n ≤ l) → slice_get (replies ++ y ∷ []) (l - 1) ≡ Some (reply_of m vs u b)
+        reply_for l u b positive e small (inl lower) = got_left replies y _ (l - 1) (h.replies_are l u b positive lower e)
+        reply_for l u b positive e small (inr g) =
+            let same : l ≡ n = omega (arith, small, g) in
+            let both = same_from_push _ _ _ _ (sym step.is ∙ ap (word words) (sym same) ∙ e) in
+            got_last replies y (l - 1) (omega (arith, h.one_less, same)) ∙ ap Some (reply_same ∙ ap (λ v. m.reply (state_of m vs v) (vector_of a)) both.0 ∙ ap (λ c. m.reply (state_of m vs u) (vector_of c)) both.1)
+
+    pub met_at : (met now : List ℕ) (i k : ℕ) → AreMet m vs words n states met → now ≡ met → k ≡ get_or now i 0 → 0 < k → IsMet m vs words n states i k
+    met_at met now i k all same read some =
+        let value : k ≡ get_or met i 0 = read ∙ ap (λ x. get_or x i 0) same in
+        subst (IsMet m vs words n states i) (sym value) (all i (subst (λ x. 0 < x) value some))
+
+    pub met_again : (met : List ℕ) → AreMet m vs words n states met → AreMet m vs words (n + 1) states met
+    met_again met all i some =
+        let old = all i some in
+        let less : get_or met i 0 < n = old.lower in
+        record { lower = omega arith; before = old.before; letter = old.letter; place = old.place; is = old.is; inside = old.inside; at = old.at; pair = old.pair }
+
+    -- one more word was met
+    pub met_more : (at a p i k j : ℕ) (t : S) (states' : List S) (met met' : List ℕ) → AreMet m vs words n states met → IsNextWord words n at a → p ≡ get_or places at p → a < length vs → i ≡ p * length vs + a → IsNumbered states t states' j →
+        k ≡ n → get_or met' i 0 ≡ k → ((other : ℕ) → (other ≡ i → ⊥) → get_or met' other 0 ≡ get_or met other 0) → AreMet m vs words (n + 1) states' met'
+    met_more at a p i k j t states' met met' all step read_p below pair found number here others o some = by_case (cases_eq o i)
+      where
+        by_case : (o ≡ i) ⊎ (o ≡ i → ⊥) → IsMet m vs words (n + 1) states' o (get_or met' o 0)
+        by_case (inl same) =
+            let value : get_or met' o 0 ≡ n = ap (λ x. get_or met' x 0) same ∙ here ∙ number in
+            let place : p ≡ get_or places at 0 = get_or_read places at p (omega (arith, step.lower, h.many)) read_p 0 in
+            record {
+              lower = omega (arith, value);
+              before = word words at;
+              letter = a;
+              place = p;
+              is = ap (word words) value ∙ step.is;
+              inside = below;
+              at = found.keeps p _ (ap (slice_get states) place ∙ h.states_are at step.lower);
+              pair = same ∙ pair;
+            }
+        by_case (inr different) =
+            let value = others o different in
+            let old = all o (subst (λ x. 0 < x) value some) in
+            let less : get_or met o 0 < n = old.lower in
+            record {
+              lower = omega (arith, value, less);
+              before = old.before;
+              letter = old.letter;
+              place = old.place;
+              is = ap (word words) value ∙ old.is;
+              inside = old.inside;
+              at = found.keeps old.place _ old.at;
+              pair = old.pair;
+            }
 
   pub replies_first : (words : List (List ℕ)) (states : List S) (j : ℕ) → ArePooled words → IsNumbered [] m.start states j → AreRepliesBelow m vs words 1 states (j ∷ []) []
   replies_first words states j pooled found = record {

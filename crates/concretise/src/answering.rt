@@ -1,4 +1,4 @@
-ghost use Rattle.std.specs.Prelude.{◌≡◌, ◌<◌, true, length, IfOk};
+ghost use Rattle.std.specs.Prelude.{◌≡◌, ◌≢◌, ℕ, ◌<◌, ◌≤◌, ◌^◌, true, length, slice_index, IfOk, OnOk};
 ghost use Rattle.std.specs.List.{All};
 ghost use Rattle.lin_form.specs.Signature.{IsInInputRanges, ranges_of};
 ghost use Rattle.subject.specs.Alike.{MembersActAlike};
@@ -67,7 +67,7 @@ pub fn suite_of_words<P: Plan>(
 }
 
 /// The reply to the last letter of each word of a pool but the empty one, in the order of the ids, each from the state
-/// of the word's longest proper prefix.
+/// of the word's longest proper prefix. The plan makes a step once for each state and letter.
 fn replies_of<P: Plan>(
     alloc: Global,
     pool: &Pool,
@@ -76,10 +76,12 @@ fn replies_of<P: Plan>(
 ) -> Result<Vec<Reply>, AllocError>
     requires letters { All (AreLetters (length classes.now)) pool.now.words }
     requires vectors { All (IsInInputRanges (P.plan plan.now).signature.inputs) classes.now }
+    requires few { length classes.now ≤ 4096 }
     ensures { IfOk result (λ replies. AreReplies (P.plan plan.now) classes.now pool.now.words replies.items) }
 {
     let count = pool.words();
     let mut states = IndexSet::new(alloc);
+    let mut met = Vec::new(alloc);
     let mut places = Vec::with_capacity(alloc, count)?;
     let mut replies = Vec::with_capacity(alloc, count)?;
     places.push(number_of(&mut states, plan.begin())?)?;
@@ -89,12 +91,45 @@ fn replies_of<P: Plan>(
         let before = pool.prefix(id, length - 1);
         let place = pool.number(before);
         let letter = pool.last(id);
-        let state = states.as_slice()[places[place] as usize];
+        let at = places[place];
+        let pair = at as usize * classes.len() + letter as usize;
+        let same = number_at(met.as_slice(), pair) as usize;
+        if same > 0 {
+            places.push(places[same])?;
+            replies.push(replies[same - 1])?;
+            continue;
+        }
+        let state = states.as_slice()[at as usize];
         let step = plan.advance(&state, &classes[letter as usize]);
         places.push(number_of(&mut states, step.state)?)?;
         replies.push(step.reply)?;
+        put_number(&mut met, pair, number as u32)?;
     }
     Ok(replies)
+}
+
+/// The number at a place, or 0 where there is none.
+fn number_at(numbers: &[u32], place: usize) -> u32
+    ensures { result ≡ slice_index numbers.now place }
+{
+    match numbers.get(place) {
+        Some(number) => *number,
+        None => 0,
+    }
+}
+
+/// Puts a number at a place. The places before it that were not there have 0.
+fn put_number(numbers: &mut Vec<u32>, place: usize, number: u32) -> Result<(), AllocError>
+    requires { place < 2 ^ 63 }
+    ensures here { OnOk result (slice_index numbers.new.items place ≡ number) }
+    ensures others { OnOk result ((other : ℕ) → other ≢ place
+        → slice_index numbers.new.items other ≡ slice_index numbers.old.items other) }
+{
+    if place >= numbers.len() {
+        numbers.resize(place + 1, 0)?;
+    }
+    numbers[place] = number;
+    Ok(())
 }
 
 /// The number of a key, which is put in where it is not there.

@@ -1,5 +1,5 @@
 -- The replies of a plan to the words of a pool.
-use Rattle.std.specs.Prelude.{◌≡◌, ℕ, ◌+◌, ◌-◌, ◌<◌, ◌≤◌, ℤ, List, [], ◌∷◌, ◌++◌, length, Some, slice_get, slice_index, slice_index_or}
+use Rattle.std.specs.Prelude.{◌≡◌, ℕ, ◌+◌, ◌-◌, ◌*◌, ◌<◌, ◌≤◌, ℤ, List, [], ◌∷◌, ◌++◌, length, Some, slice_get, slice_index, slice_index_or}
 use Rattle.subject.specs.Meaning.{Meaning, state_after}
 use Rattle.subject.specs.Suite.{in_vectors}
 use Rattle.word_pool.specs.Words.{word}
@@ -35,3 +35,21 @@ pub record AreReplies {S : Type 0} (m : Meaning S) (classes : List (List ℤ)) (
   pub one_each : length words ≡ length replies + 1
   pub each : (k : ℕ) (u : List ℕ) (a : ℕ) → 0 < k → k < length words → word words k ≡ u ++ a ∷ []
       → slice_get replies (k - 1) ≡ Some (reply_of m classes u a)
+
+-- the word with number k is one letter after a word that leads to a state, and i is the number of the pair of this
+-- state's place and the letter
+pub record IsMet {S : Type 0} (m : Meaning S) (classes : List (List ℤ)) (words : List (List ℕ)) (n : ℕ)
+    (states : List S) (i k : ℕ) : Type 0 where
+  pub lower : k < n
+  pub before : List ℕ
+  pub letter : ℕ
+  pub place : ℕ
+  pub is : word words k ≡ before ++ letter ∷ []
+  pub inside : letter < length classes
+  pub at : slice_get states place ≡ Some (state_of m classes before)
+  pub pair : i ≡ place * length classes + letter
+
+-- the numbers that are kept for pairs of a state's place and a letter, where they are not 0
+abbrev pub AreMet : {S : Type 0} → Meaning S → List (List ℤ) → List (List ℕ) → ℕ → List S → List ℕ → Type 0
+AreMet m classes words n states met = (i : ℕ) → 0 < slice_index met i
+    → IsMet m classes words n states i (slice_index met i)
