@@ -5,7 +5,7 @@ ghost use Rattle.test_world.specs.Count.{Rose};
 ghost use Rattle.subject.specs.Domain.{IsFitting};
 ghost use Rattle.subject.specs.Meaning.{answer};
 ghost use Rattle.subject.specs.Suite.{Test, test_case, tests_of};
-ghost use Rattle.suite_model.specs.Scratch.{IsMadeFor};
+ghost use Rattle.suite_model.specs.Scratch.{IsMadeFor, HasTest};
 ghost use Rattle.test_subject.specs.Subject.{Keeps, Fits, Gives, Sends, SendsBy, SendsPrefix};
 ghost use Rattle.test_subject.specs.Verdict.{IsVerdict, NamesDifference};
 ghost use Rattle.test_subject.specs.declared.verdict.Verdict.TheVariants.{Fail};
@@ -32,7 +32,7 @@ fn differ(given: &Reply, expected: &Reply) -> bool
     !(*given == *expected)
 }
 
-/// Runs a test, whose letters the scratch holds, up to the first reply that differs.
+/// Runs a test, whose letters and replies the scratch holds, up to the first reply that differs.
 fn run_test<S: Subject>(
     suite: &Suite,
     test: usize,
@@ -42,8 +42,7 @@ fn run_test<S: Subject>(
 ) -> Result<Option<Difference>, Fault>
     requires test { test < length suite.now.tests }
     requires made { IsMadeFor suite.now scratch.now }
-    requires letters { (t : Test) → slice_get suite.now.tests test ≡ Some t
-        → (count ≡ length t.letters) × (take count scratch.now.letters ≡ t.letters) }
+    requires held { (t : Test) → slice_get suite.now.tests test ≡ Some t → HasTest t count scratch.now }
     requires fits { Fits suite.now.signature (S.state subject.old) }
     ensures keeps { Keeps (S.state subject.old) (S.state subject.new) }
     ensures tries { (t : Test) → slice_get suite.now.tests test ≡ Some t
@@ -62,7 +61,7 @@ fn run_test<S: Subject>(
             Ok(given) => given,
             Err(fault) => return Err(fault),
         };
-        if differ(&given, suite.expected(test, step)) {
+        if differ(&given, scratch.expected(step)) {
             return Ok(Some(Difference { step, given }));
         }
     }
@@ -99,8 +98,8 @@ pub fn drive<S: Subject>(
     ensures sent { MatchResult result
         (λ v. Sends (S.state subject.old) (S.state subject.new) (lines_to (tests_of suite.now) v))
         (λ _. SendsPrefix (S.state subject.old) (S.state subject.new) (lines (turns (tests_of suite.now)))) }
-    ensures stops { ForSome (S.state subject.old).coming (λ coming. let sent = exchange (turns (tests_of suite.now)) coming in
-        SendsBy (S.state subject.old) (S.state subject.new) sent result) }
+    ensures stops { ForSome (S.state subject.old).coming (λ coming.
+        SendsBy (S.state subject.old) (S.state subject.new) (exchange (turns (tests_of suite.now)) coming) result) }
     ensures keeps { Keeps (S.state subject.old) (S.state subject.new) }
     ensures fault { OnErr result (Rose (S.state subject.old).faults (S.state subject.new).faults) }
     ensures follows { S.follows subject.old subject.new }
@@ -108,7 +107,7 @@ pub fn drive<S: Subject>(
 {
     suite_keeps_rules(suite);
     for test in 0..suite.tests() {
-        let count = suite.test_letters(test, scratch);
+        let count = suite.put_test(test, scratch);
         let difference = match run_test(suite, test, count, subject, scratch) {
             Ok(difference) => difference,
             Err(fault) => return Err(fault),

@@ -31,8 +31,8 @@ failed-requires-clause-step g c =
     let d = rw (c.in-Some.is) at (c.in-Ok.ensures.tries _ there) in
     let within = slice_get_within _ c.in-Some.difference.step d.expected d.wanted in
     let many = as_many c.args.suite.now c.suite_keeps_rules.ensures c.loop-test.test _ there in
-    let count = (c.test_letters-count.ensures.letters _ there).0 in
-    omega (arith, within, many, count, c.test_letters-count.type_inv)
+    let count = (c.put_test-count.ensures.test _ there).size in
+    omega (arith, within, many, count, c.put_test-count.type_inv)
 
 pub returns-in-Some-clause-verdict : goal.returns-in-Some-clause-verdict
 returns-in-Some-clause-verdict g c = λ plan told.
@@ -84,7 +84,7 @@ loop-test-preserved g c =
     let there = slice_get-get_or c.args.suite.now.tests c.loop-test.test no_test (rw c.tests-test-end.ensures at c.loop-test-test.true) in
     let done = c.in-Ok.ensures in
     record {
-      made = c.test_letters-count.ensures.still_made;
+      made = c.put_test-count.ensures.still_made;
       keeps = keeps_both c.loop-test.invariant.keeps done.keeps;
       follows = g.met.S.Subject.follows_along _ _ _ c.loop-test.invariant.follows done.follows;
       passed = test_passes (g.S.Subject.state c.args.subject.now) (g.S.Subject.state c.loop-test.subject) (g.S.Subject.state c.run_test.new.subject) (tests_of c.args.suite.now) c.loop-test.test _ c.loop-test.invariant.passed c.loop-test.invariant.keeps
