@@ -3,3 +3,11 @@ pub mod Leading
 pub mod Keeping
 pub mod Printing
 pub mod Whole
+pub mod Same
+pub mod Deciding
+pub mod Spelling
+pub mod ReadBack
+pub mod Heading
+pub mod Passing
+pub mod Printed
+pub mod CallerLemmas

@@ -31,7 +31,7 @@ step_small : (v r : List ℤ) → are_within most v ≡ true → are_within most
 step_small [] r e f = (tt, numbers_small most r (omega arith) f)
 step_small (z ∷ v) r e f = let h = both (is_within most z) (list_all (is_within most) v) e in (h.0, step_small v r h.1 f)
 
-item_small : (s : State) (i : Item) → first_of (checks s i) ≡ None → AreSmall (item_line i)
+pub item_small : (s : State) (i : Item) → first_of (checks s i) ≡ None → AreSmall (item_line i)
 item_small s SuiteLine e = (tt, (refl, tt))
 item_small s (InputLine name low high) e =
     let cs = checks s (InputLine name low high) in
@@ -75,13 +75,13 @@ reads_one text s t h k =
     leads_one begun (whole s) (whole t) (map line_tokens h.0) h.1.1 (subst (λ ls. Leads begun (map line_tokens ls) (whole t)) same k.1.1)
 
 -- the lines up to one, and what that says
-record Splits (s : State) (front : List (List Token)) (line : List Token) : Type 0 where
-  middle : State
-  leads : Leads s front middle
-  item : Item
-  says : Says middle line item
+pub record Splits (s : State) (front : List (List Token)) (line : List Token) : Type 0 where
+  pub middle : State
+  pub leads : Leads s front middle
+  pub item : Item
+  pub says : Says middle line item
 
-leads_split : (s u : State) (front : List (List Token)) (line : List Token) (rest : List (List Token)) → Leads s (front ++ line ∷ rest) u → Splits s front line
+pub leads_split : (s u : State) (front : List (List Token)) (line : List Token) (rest : List (List Token)) → Leads s (front ++ line ∷ rest) u → Splits s front line
 leads_split s u [] line rest h = record { middle = s; leads = refl; item = h.0; says = h.1.0 }
 leads_split s u (l ∷ front) line rest h =
     let more = leads_split (next s h.0) u front line rest h.1.1 in
@@ -103,7 +103,7 @@ shorter (l ∷ lines) (f ∷ front) line rest e some =
     let h = g.is in
     record { rest = g.rest; is = λ i. one i ∷ h i }
 
-map_line : (front : List (List ℕ)) (line : List ℕ) (rest : List (List ℕ)) → map line_tokens (front ++ line ∷ rest) ≡ map line_tokens front ++ line_tokens line ∷ map line_tokens rest
+pub map_line : (front : List (List ℕ)) (line : List ℕ) (rest : List (List ℕ)) → map line_tokens (front ++ line ∷ rest) ≡ map line_tokens front ++ line_tokens line ∷ map line_tokens rest
 map_line [] line rest = refl
 map_line (f ∷ front) line rest = ap (λ x. line_tokens f ∷ x) (map_line front line rest)
 

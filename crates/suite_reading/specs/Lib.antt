@@ -3,3 +3,4 @@ pub mod State
 pub mod Checks
 pub mod Reading
 pub mod inside
+pub mod Printable

@@ -59,3 +59,9 @@ pub record RefusesAtEnd (text : List ℕ) (number : ℕ) : Type 0 where
 abbrev pub RefusesText : List ℕ → ℕ → Cause → Type 0
 RefusesText text number cause = RefusesAtLine text number cause
     ⊎ (RefusesAtEnd text number × (cause ≡ Fault fault.End))
+
+-- a text is read as one suite at most or refused at one line for one cause, and not both
+pub record IsDecided (text : List ℕ) : Type 0 where
+  pub one_reading : (s t : SuiteParts) → ReadsSuite text s → ReadsSuite text t → s ≡ t
+  pub one_refusal : (n m : ℕ) (c d : Cause) → RefusesText text n c → RefusesText text m d → (n ≡ m) × (c ≡ d)
+  pub apart : (s : SuiteParts) (n : ℕ) (c : Cause) → ReadsSuite text s → RefusesText text n c → ⊥

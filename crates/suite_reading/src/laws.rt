@@ -2,18 +2,20 @@
 ghost use Rattle.std.specs.Prelude.{◌≡◌, ℕ, List};
 ghost use Rattle.subject.specs.Suite.{SuiteParts};
 ghost use Rattle.suite_model.specs.Text.{suite_text};
-ghost use Rattle.suite_reading.specs.declared.error.Cause.{Cause};
-ghost use Rattle.suite_reading.specs.State.{whole};
-ghost use Rattle.suite_reading.specs.Reading.{ReadsSuite, RefusesText};
+ghost use Rattle.suite_reading.specs.Printable.{IsPrintable};
+ghost use Rattle.suite_reading.specs.Reading.{IsDecided, ReadsSuite};
 
 /// A text that is read as a suite is the suite's text, byte for byte.
 pub fn text_read_is_printed()
     ensures { (text : List ℕ) (s : SuiteParts) → ReadsSuite text s → text ≡ suite_text s }
 {}
 
-/// A text is read as one suite at most, and a text that is read is not refused.
+/// A text is read as one suite at most or refused at one line for one cause, and not both.
 pub fn reading_is_one()
-    ensures one { (text : List ℕ) (s t : SuiteParts) → ReadsSuite text s → ReadsSuite text t → whole s ≡ whole t }
-    ensures not_both { (text : List ℕ) (s : SuiteParts) (number : ℕ) (cause : Cause) →
-        ReadsSuite text s → RefusesText text number cause → ⊥ }
+    ensures { (text : List ℕ) → IsDecided text }
+{}
+
+/// The text of a printable suite is read as that suite.
+pub fn printed_is_read()
+    ensures { (s : SuiteParts) → IsPrintable s → ReadsSuite (suite_text s) s }
 {}

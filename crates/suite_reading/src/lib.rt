@@ -7,5 +7,5 @@ mod laws;
 mod place;
 
 pub use error::{Cause, SuiteKind, SuiteWhich};
-pub use laws::{reading_is_one, text_read_is_printed};
+pub use laws::{printed_is_read, reading_is_one, text_read_is_printed};
 pub use place::{LineKind, Place, may_stand};
