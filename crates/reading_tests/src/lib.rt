@@ -1,0 +1,5 @@
+//! Tests of reading a suite's text from outside: what is read, and the first line that is refused.
+#![tactic(auto)]
+
+#[cfg(test)]
+mod tests;
