@@ -1,3 +1,4 @@
 pub mod Lines
 pub mod Growing
 pub mod Failing
+pub mod Objects
