@@ -1,12 +1,11 @@
--- The bound of a suite and of a run.
+-- The bound of a command.
 use Rattle.std.proofs.Common.{◌≡◌, ℕ, ◌<◌, ◌≤◌, ◌-◌, Bool, true, false, ◌&&◌, if◌then◌else◌, nat_lt, List, [], ◌∷◌, length, codes, Option, Some, None, refl, sym, ◌∙◌, ap, subst, arith}
 use Rattle.std.specs.Prelude.{IfSome, nat_le}
 use Rattle.std.proofs.lemmas.Bool.{ltb-true, leb-true}
 use Rattle.command_words.specs.declared.command.Command.{Command}
-use Rattle.command_words.specs.declared.command.Command.TheVariants.{Suite, Run}
 use Rattle.command_words.specs.declared.command.Place.{Place}
-use Rattle.command_words.specs.declared.command.Place.TheVariants.{Text, Cuts, Bound}
-use Rattle.command_words.specs.Command.{IsBounded, bound_of, bound_at, fits_places, is_input, takes, suite_places, run_places, when}
+use Rattle.command_words.specs.declared.command.Place.TheVariants.{Text, Bound}
+use Rattle.command_words.specs.Command.{IsBounded, bound_of, bound_at, fits_places, is_input, takes, when}
 
 and_first : (a b : Bool) → (a && b) ≡ true → a ≡ true
 and_first true b h = refl
@@ -40,10 +39,7 @@ after_name rest (word ∷ words) h = here (is_input Text word) h
 within : (rest : List Place) (words : List (List ℕ)) (bound : ℕ) → true ≡ fits_places 1 (Text ∷ Bound ∷ rest) words → bound ≡ bound_at words 1 → (1 ≤ bound) × (bound ≤ 1024)
 within rest words bound is at = subst (λ b. (1 ≤ b) × (b ≤ 1024)) (sym at) (after_name rest words (sym is))
 
-pub bounded : (words : List (List ℕ)) (fits named : Bool) (bound : ℕ) (o : Option Command) → fits ≡ fits_places 1 suite_places words → bound ≡ bound_at words 1 → o ≡ when fits (Suite bound named) → IfSome o IsBounded
-bounded words true named bound o is at e = let P : Option Command → Type 0 = λ x. IfSome x IsBounded in subst P (sym e) (within (Cuts ∷ []) words bound is at)
-bounded words false named bound o is at e = let P : Option Command → Type 0 = λ x. IfSome x IsBounded in subst P (sym e) tt
-
-pub bounded_run : (words : List (List ℕ)) (fits named : Bool) (bound : ℕ) (o : Option Command) → fits ≡ fits_places 1 run_places words → bound ≡ bound_at words 1 → o ≡ when fits (Run bound named) → IfSome o IsBounded
-bounded_run words true named bound o is at e = let P : Option Command → Type 0 = λ x. IfSome x IsBounded in subst P (sym e) (within (Cuts ∷ Text ∷ []) words bound is at)
-bounded_run words false named bound o is at e = let P : Option Command → Type 0 = λ x. IfSome x IsBounded in subst P (sym e) tt
+-- a command with such a bound
+pub bounded : (rest : List Place) (words : List (List ℕ)) (fits : Bool) (bound : ℕ) (command : Command) (o : Option Command) → ((1 ≤ bound) × (bound ≤ 1024) → IsBounded command) → fits ≡ fits_places 1 (Text ∷ Bound ∷ rest) words → bound ≡ bound_at words 1 → o ≡ when fits command → IfSome o IsBounded
+bounded rest words true bound command o is_bounded is at e = let P : Option Command → Type 0 = λ x. IfSome x IsBounded in subst P (sym e) (is_bounded (within rest words bound is at))
+bounded rest words false bound command o is_bounded is at e = let P : Option Command → Type 0 = λ x. IfSome x IsBounded in subst P (sym e) tt

@@ -5,7 +5,7 @@ use Rattle.std.specs.List.{list_all}
 use Rattle.std.specs.Str.{bytes_eq}
 use Rattle.std.specs.Str.Parse.{digits_value}
 use Rattle.command_words.specs.declared.command.Command.{Command}
-use Rattle.command_words.specs.declared.command.Command.TheVariants.{Play, Classes, Suite, Run}
+use Rattle.command_words.specs.declared.command.Command.TheVariants.{Play, Classes, Suite, Run, Json, Replay}
 use Rattle.command_words.specs.declared.command.Verb.{Verb}
 use Rattle.command_words.specs.declared.command.Verb.TheVariants as verb
 use Rattle.command_words.specs.declared.command.Place.{Place}
@@ -79,26 +79,33 @@ verb_of word =
     else if bytes_eq word (codes "classes") then Some verb.Classes
     else if bytes_eq word (codes "suite") then Some verb.Suite
     else if bytes_eq word (codes "run") then Some verb.Run
+    else if bytes_eq word (codes "json") then Some verb.Json
+    else if bytes_eq word (codes "replay") then Some verb.Replay
     else None
 
--- play CHART WORD; classes CHART CUTS; suite CHART M CUTS; run CHART M CUTS IMPL
+-- play CHART WORD; classes CHART CUTS; suite CHART M CUTS; run CHART M CUTS IMPL; json CHART M CUTS IMPL;
+-- replay SUITE IMPL
 abbrev pub command_with : Option Verb → List (List ℕ) → Option Command
 command_with None words = None
 command_with (Some verb.Play) words = when (fits_places 1 play_places words) Play
+command_with (Some verb.Replay) words = when (fits_places 1 play_places words) Replay
 command_with (Some verb.Classes) words = when (fits_places 1 classes_places words) (Classes (names_text words 1))
 command_with (Some verb.Suite) words =
     when (fits_places 1 suite_places words) (Suite (bound_at words 1) (names_text words 2))
 command_with (Some verb.Run) words =
     when (fits_places 1 run_places words) (Run (bound_at words 1) (names_text words 2))
+command_with (Some verb.Json) words =
+    when (fits_places 1 run_places words) (Json (bound_at words 1) (names_text words 2))
 
 abbrev pub command_of : List (List ℕ) → Option Command
 command_of [] = None
 command_of (verb ∷ words) = command_with (verb_of verb) words
 
--- the bound of a suite or a run is from 1 to 1,024
+-- the bound is from 1 to 1,024
 abbrev pub IsBounded : Command → Type 0
 IsBounded (Suite bound named) = (1 ≤ bound) × (bound ≤ 1024)
 IsBounded (Run bound named) = (1 ≤ bound) × (bound ≤ 1024)
+IsBounded (Json bound named) = (1 ≤ bound) × (bound ≤ 1024)
 IsBounded other = Unit {0}
 
 -- the words are a command

@@ -14,6 +14,10 @@ pub enum Command {
     Suite { bound: usize, cuts: bool },
     /// The verdict on an implementation by the suite of a chart for a bound from 1 to 1,024, with a text of cuts or without.
     Run { bound: usize, cuts: bool },
+    /// The same as JSON.
+    Json { bound: usize, cuts: bool },
+    /// The verdict on an implementation by a suite that is read.
+    Replay,
 }
 
 /// What the first word asks for.
@@ -23,6 +27,8 @@ enum Verb {
     Classes,
     Suite,
     Run,
+    Json,
+    Replay,
 }
 
 /// What a word stands for.
@@ -36,7 +42,7 @@ pub enum Place {
     Bound,
 }
 
-/// What the words after `play` stand for.
+/// What the words after `play` and `replay` stand for.
 const PLAY: &[Place] = &[Place::Text, Place::Text];
 
 /// What the words after `classes` stand for.
@@ -45,7 +51,7 @@ const CLASSES: &[Place] = &[Place::Text, Place::Cuts];
 /// What the words after `suite` stand for.
 const SUITE: &[Place] = &[Place::Text, Place::Bound, Place::Cuts];
 
-/// What the words after `run` stand for.
+/// What the words after `run` and `json` stand for.
 const RUN: &[Place] = &[Place::Text, Place::Bound, Place::Cuts, Place::Text];
 
 fn takes(place: Place, word: &str) -> bool
@@ -120,6 +126,12 @@ fn verb_of(word: &str) -> Option<Verb>
     if word == "run" {
         return Some(Verb::Run);
     }
+    if word == "json" {
+        return Some(Verb::Json);
+    }
+    if word == "replay" {
+        return Some(Verb::Replay);
+    }
     None
 }
 
@@ -130,6 +142,7 @@ fn command_with(verb: Verb, words: &[String]) -> Option<Command>
 {
     match verb {
         Verb::Play => when(fits_places(1, PLAY, words), Command::Play),
+        Verb::Replay => when(fits_places(1, PLAY, words), Command::Replay),
         Verb::Classes => {
             let cuts = names_text(words, 1);
             when(fits_places(1, CLASSES, words), Command::Classes { cuts })
@@ -143,6 +156,11 @@ fn command_with(verb: Verb, words: &[String]) -> Option<Command>
             let bound = bound_at(words, 1);
             let cuts = names_text(words, 2);
             when(fits_places(1, RUN, words), Command::Run { bound, cuts })
+        }
+        Verb::Json => {
+            let bound = bound_at(words, 1);
+            let cuts = names_text(words, 2);
+            when(fits_places(1, RUN, words), Command::Json { bound, cuts })
         }
     }
 }
