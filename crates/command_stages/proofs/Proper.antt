@@ -1,11 +1,9 @@
 -- A stage has one outcome.
 use Rattle.std.proofs.Common.{◌≡◌, ℕ, ◌≤◌, Bool, List, [], ◌++◌, Option, Some, None, Result, Ok, Err, refl, sym, ◌∙◌, ap, subst, arith, ◌⊎◌, inl, inr}
 use Rattle.std.specs.Prelude.{IsSome, length}
-use Rattle.chart_syntax.specs.declared.error.Refusal as text_error
-use Rattle.chart_syntax.specs.declared.error.Refusal.TheVariants as met
 use Rattle.test_world.specs.Shelf.{Held, Holds, HoldsMoreThan}
 use Rattle.command_stages.specs.declared.stop.Refusal.{Refusal}
-use Rattle.command_stages.specs.declared.stop.Refusal.TheVariants.{Fault, Limit, TooLong, NoInput, Unfit, Beyond, BoundBelow}
+use Rattle.command_stages.specs.declared.stop.Refusal.TheVariants.{TooLong}
 use Rattle.command_stages.specs.declared.stop.Source.{Source}
 use Rattle.command_stages.specs.declared.stop.Source.TheVariants.{Word, Replies}
 use Rattle.command_stages.specs.declared.stop.Stop.{Stop}
@@ -136,51 +134,41 @@ only_text number most given s source h = h.1
 pub proper_text : {reads : Source → Type 0} (number most : ℕ) → reads (Word number) → IsProper reads (TextAt number most)
 proper_text {reads} number most may = record { one = λ given told s t x y d e p q. one_text number most given told x y (text_of number most given s x d p) (text_of number most given t y e q); only = λ given s source h. subst reads (sym (only_text number most given s source h)) may }
 
-told_as : ℕ → ℕ → text_error.Refusal → Refusal
-told_as number line (met.Fault kind) = Fault number line kind
-told_as number line (met.Limit which) = Limit number line which
-
--- a refusal of a text, as what a reader tells of it
-record IsTold (number : ℕ) (refuses : ℕ → text_error.Refusal → Type 0) (stop : Stop) : Type 0 where
+-- the refusal of a text, as what a reader tells of it
+record IsTold {C : Type 0} (refusal : ℕ → C → Refusal) (refuses : ℕ → C → Type 0) (stop : Stop) : Type 0 where
   line : ℕ
-  what : text_error.Refusal
+  what : C
   refused : refuses line what
-  is : stop ≡ Refused (told_as number line what)
+  is : stop ≡ Refused (refusal line what)
 
-told : {A : Type 0} (number : ℕ) (reads : A → Type 0) (refuses : ℕ → text_error.Refusal → Type 0) (given : Given) (s : List Source) (stop : Stop) → IsAnswer stop → Reading number reads refuses given s (Err stop) → IsTold number refuses stop
-unfolding Reading told_as
-told number reads refuses given s (Refused (Fault name line kind)) d h = record { line = line; what = met.Fault kind; refused = h.2; is = ap (λ n. Refused (Fault n line kind)) h.1 }
-told number reads refuses given s (Refused (Limit name line which)) d h = record { line = line; what = met.Limit which; refused = h.2; is = ap (λ n. Refused (Limit n line which)) h.1 }
-told number reads refuses given s (Refused (TooLong name)) d h = let e = h.1 in absurd (cc)
-told number reads refuses given s (Refused (NoInput name)) d h = let e = h.1 in absurd (cc)
-told number reads refuses given s (Refused (Unfit name place)) d h = let e = h.1 in absurd (cc)
-told number reads refuses given s (Refused (Beyond quantity)) d h = let e = h.1 in absurd (cc)
-told number reads refuses given s (Refused (BoundBelow bound states)) d h = let e = h.1 in absurd (cc)
-told number reads refuses given s NoCommand d h = let e = h.1 in absurd (cc)
-told number reads refuses given s (Unread source) d h = absurd d
-told number reads refuses given s WriteFault d h = absurd d
-told number reads refuses given s NoMemory d h = absurd d
-
-reads_of : {A : Type 0} (number : ℕ) (reads : A → Type 0) (refuses : ℕ → text_error.Refusal → Type 0) (given : Given) (s : List Source) (a : A) → Reading number reads refuses given s (Ok a) → reads a
+told : {A C : Type 0} (refusal : ℕ → C → Refusal) (reads : A → Type 0) (refuses : ℕ → C → Type 0) (given : Given) (s : List Source) (stop : Stop) → IsAnswer stop → Reading refusal reads refuses given s (Err stop) → IsTold refusal refuses stop
 unfolding Reading
-reads_of number reads refuses given s a h = h.1
+told refusal reads refuses given s (Refused other) d h = record { line = h.1; what = h.2; refused = h.4; is = ap Refused h.3 }
+told refusal reads refuses given s NoCommand d h = let e = h.1 in absurd (cc)
+told refusal reads refuses given s (Unread source) d h = absurd d
+told refusal reads refuses given s WriteFault d h = absurd d
+told refusal reads refuses given s NoMemory d h = absurd d
 
-one_reading : {A : Type 0} (number : ℕ) (reads : A → Type 0) (refuses : ℕ → text_error.Refusal → Type 0) → IsDecidedBy reads refuses → (given : Given) (s t : List Source) (x y : Result A Stop) → IsDetermined x → IsDetermined y → Reading number reads refuses given s x → Reading number reads refuses given t y → x ≡ y
-one_reading number reads refuses decided given s t (Ok a) (Ok b) d e p q = ap Ok (decided.one_reading a b (reads_of number reads refuses given s a p) (reads_of number reads refuses given t b q))
-one_reading number reads refuses decided given s t (Ok a) (Err y) d e p q = let u = told number reads refuses given t y e q in absurd (decided.apart a u.line u.what (reads_of number reads refuses given s a p) u.refused)
-one_reading number reads refuses decided given s t (Err x) (Ok b) d e p q = let u = told number reads refuses given s x d p in absurd (decided.apart b u.line u.what (reads_of number reads refuses given t b q) u.refused)
-one_reading number reads refuses decided given s t (Err x) (Err y) d e p q =
-    let u = told number reads refuses given s x d p in
-    let v = told number reads refuses given t y e q in
+reads_of : {A C : Type 0} (refusal : ℕ → C → Refusal) (reads : A → Type 0) (refuses : ℕ → C → Type 0) (given : Given) (s : List Source) (a : A) → Reading refusal reads refuses given s (Ok a) → reads a
+unfolding Reading
+reads_of refusal reads refuses given s a h = h.1
+
+one_reading : {A C : Type 0} (refusal : ℕ → C → Refusal) (reads : A → Type 0) (refuses : ℕ → C → Type 0) → IsDecidedBy reads refuses → (given : Given) (s t : List Source) (x y : Result A Stop) → IsDetermined x → IsDetermined y → Reading refusal reads refuses given s x → Reading refusal reads refuses given t y → x ≡ y
+one_reading refusal reads refuses decided given s t (Ok a) (Ok b) d e p q = ap Ok (decided.one_reading a b (reads_of refusal reads refuses given s a p) (reads_of refusal reads refuses given t b q))
+one_reading refusal reads refuses decided given s t (Ok a) (Err y) d e p q = let u = told refusal reads refuses given t y e q in absurd (decided.apart a u.line u.what (reads_of refusal reads refuses given s a p) u.refused)
+one_reading refusal reads refuses decided given s t (Err x) (Ok b) d e p q = let u = told refusal reads refuses given s x d p in absurd (decided.apart b u.line u.what (reads_of refusal reads refuses given t b q) u.refused)
+one_reading refusal reads refuses decided given s t (Err x) (Err y) d e p q =
+    let u = told refusal reads refuses given s x d p in
+    let v = told refusal reads refuses given t y e q in
     let w = decided.one_refusal u.line v.line u.what v.what u.refused v.refused in
-    ap Err (u.is ∙ (λ i. Refused (told_as number (w.0 i) (w.1 i))) ∙ sym v.is)
+    ap Err (u.is ∙ (λ i. Refused (refusal (w.0 i) (w.1 i))) ∙ sym v.is)
 
-only_reading : {A : Type 0} (number : ℕ) (reads : A → Type 0) (refuses : ℕ → text_error.Refusal → Type 0) (given : Given) (s : List Source) (source : Source) → Reading number reads refuses given s (Err (Unread source)) → ⊥
+only_reading : {A C : Type 0} (refusal : ℕ → C → Refusal) (reads : A → Type 0) (refuses : ℕ → C → Type 0) (given : Given) (s : List Source) (source : Source) → Reading refusal reads refuses given s (Err (Unread source)) → ⊥
 unfolding Reading
-only_reading number reads refuses given s source h = let e = h.1 in cc
+only_reading refusal reads refuses given s source h = let e = h.1 in cc
 
-pub proper_reading : {A : Type 0} {may : Source → Type 0} (number : ℕ) (reads : A → Type 0) (refuses : ℕ → text_error.Refusal → Type 0) → IsDecidedBy reads refuses → IsProper may (Reading number reads refuses)
-proper_reading number reads refuses decided = record { one = λ given told_it s t x y d e p q. one_reading number reads refuses decided given s t x y d e p q; only = λ given s source h. absurd (only_reading number reads refuses given s source h) }
+pub proper_reading : {A C : Type 0} {may : Source → Type 0} (refusal : ℕ → C → Refusal) (reads : A → Type 0) (refuses : ℕ → C → Type 0) → IsDecidedBy reads refuses → IsProper may (Reading refusal reads refuses)
+proper_reading refusal reads refuses decided = record { one = λ given told_it s t x y d e p q. one_reading refusal reads refuses decided given s t x y d e p q; only = λ given s source h. absurd (only_reading refusal reads refuses given s source h) }
 
 one_whole : (stage : Stage Printed) (given : Given) (s t : List Source) → ((x y : Result Printed Stop) → IsDetermined x → IsDetermined y → stage given s x → stage given t y → x ≡ y) → (a b : List ℕ) (x y : Result Bool Stop) → IsDetermined x → IsDetermined y → Whole stage given s (answer a x) → Whole stage given t (answer b y) → answer a x ≡ answer b y
 one_whole stage given s t one a b (Ok p) (Ok q) d e f g = ap (λ (r : Printed). answer r.text (Ok r.passes)) (ok_same (let r : Printed = record { passes = p; text = a } in r) (let r : Printed = record { passes = q; text = b } in r) (one (Ok (record { passes = p; text = a })) (Ok (record { passes = q; text = b })) tt tt f g))

@@ -9,6 +9,7 @@ use Rattle.test_world.specs.declared.reading.LoadError.{LoadError}
 use Rattle.test_world.specs.declared.reading.LoadError.TheVariants as load_error
 use Rattle.test_world.specs.Load.{Loads, IsFault}
 use Rattle.chart_syntax.specs.declared.error.Refusal as text_error
+use Rattle.chart_syntax.specs.declared.error.Refusal.TheVariants as met
 use Rattle.chart_syntax.specs.declared.error.ChartError.{ChartError}
 use Rattle.chart_syntax.specs.declared.error.ChartError.TheVariants as chart_error
 use Rattle.chart_syntax.specs.Reading.{IsRefusedBy}
@@ -19,7 +20,7 @@ use Rattle.command_stages.specs.declared.stop.Refusal.{Refusal}
 use Rattle.command_stages.specs.declared.stop.Source.{Source}
 use Rattle.command_stages.specs.declared.stop.Stop.{Stop}
 use Rattle.command_stages.specs.declared.stop.Stop.TheVariants.{NoCommand, Refused, Unread, WriteFault, NoMemory}
-use Rattle.command_stages.specs.Stage.{Given, Stage, Then, Is, TextAt, Reading, Unless, Stopped, Comes, IsNoRead, IsRead, HoldsWanted, at_shelf, Made}
+use Rattle.command_stages.specs.Stage.{Given, Stage, Then, Is, TextAt, Reading, Unless, Stopped, Comes, IsNoRead, IsRead, HoldsWanted, at_shelf, text_refusal, Made}
 
 stopped_map : (stop : Stop) (S T : Type 0) (before between after : ℕ) → before ≤ between → (S → T) → Stopped stop S between after → Stopped stop T before after
 stopped_map NoCommand S T before between after later f h = h
@@ -151,25 +152,26 @@ made_text number most words before after r name e loaded =
     }
 
 -- a text that was read
-pub made_read : {A : Type 0} (number : ℕ) (reads : List ℕ → A → Type 0) (refuses : List ℕ → ℕ → text_error.Refusal → Type 0) {text bytes : List ℕ} {words : List (List ℕ)} {shelf : ShelfState} {a : A} → bytes ≡ text → reads bytes a → Made (Reading number (reads text) (refuses text)) words shelf shelf (Ok a)
+pub made_read : {A C : Type 0} (refusal : ℕ → C → Refusal) (reads : List ℕ → A → Type 0) (refuses : List ℕ → ℕ → C → Type 0) {text bytes : List ℕ} {words : List (List ℕ)} {shelf : ShelfState} {a : A} → bytes ≡ text → reads bytes a → Made (Reading refusal (reads text) (refuses text)) words shelf shelf (Ok a)
 unfolding Reading
-made_read number reads refuses {text} {bytes} {words} {shelf} {a} e h =
+made_read refusal reads refuses {text} {bytes} {words} {shelf} {a} e h =
     let P : List ℕ → Type 0 = λ t. reads t a in
-    untouched {stage = Reading number (reads text) (refuses text)} words shelf (Ok a) (refl, subst P e h) tt
+    untouched {stage = Reading refusal (reads text) (refuses text)} words shelf (Ok a) (refl, subst P e h) tt
 
-not_read : (number : ℕ) (e : ChartError) → IsNoRead (stop_of_chart number e)
-not_read number (chart_error.Fault line kind) = tt
-not_read number (chart_error.Limit line which) = tt
-not_read number chart_error.Memory = tt
-
-comes_not : {A : Type 0} (number : ℕ) (reads : A → Type 0) (refuses : ℕ → text_error.Refusal → Type 0) (given : Given) (n : ℕ) (e : ChartError) → IsRefusedBy refuses e → Comes (Reading number reads refuses) given [] n n (Err (stop_of_chart number e))
+-- a text that is refused
+pub made_refused : {A C : Type 0} (refusal : ℕ → C → Refusal) (reads : List ℕ → A → Type 0) (refuses : List ℕ → ℕ → C → Type 0) {text bytes : List ℕ} {words : List (List ℕ)} {shelf : ShelfState} (line : ℕ) (met : C) → bytes ≡ text → refuses bytes line met → Made (Reading refusal (reads text) (refuses text)) words shelf shelf (Err (Refused (refusal line met)))
 unfolding Reading
-comes_not number reads refuses given n (chart_error.Fault line kind) h = (refl, refl, h)
-comes_not number reads refuses given n (chart_error.Limit line which) h = (refl, refl, h)
-comes_not number reads refuses given n chart_error.Memory h = (refl, refl)
+made_refused {A} refusal reads refuses {text} {bytes} {words} {shelf} line met same h =
+    let P : List ℕ → Type 0 = λ t. refuses t line met in
+    untouched {stage = Reading {A = A} refusal (reads text) (refuses text)} words shelf (Err (Refused (refusal line met))) (refl, line, met, refl, subst P same h) tt
+
+-- no memory to read a text
+pub made_unread : {A C : Type 0} (refusal : ℕ → C → Refusal) (reads : A → Type 0) (refuses : ℕ → C → Type 0) {words : List (List ℕ)} {shelf : ShelfState} → Made (Reading refusal reads refuses) words shelf shelf (Err NoMemory)
+unfolding Reading
+made_unread {A} refusal reads refuses {words} {shelf} = untouched {stage = Reading {A = A} refusal reads refuses} words shelf (Err NoMemory) (refl, refl) tt
 
 -- a text that has no reading
-pub made_not : {A : Type 0} (number : ℕ) (reads : List ℕ → A → Type 0) (refuses : List ℕ → ℕ → text_error.Refusal → Type 0) {text bytes : List ℕ} {words : List (List ℕ)} {shelf : ShelfState} (e : ChartError) → bytes ≡ text → IsRefusedBy (refuses bytes) e → Made (Reading number (reads text) (refuses text)) words shelf shelf (Err (stop_of_chart number e))
-made_not {A} number reads refuses {text} {bytes} {words} {shelf} e same h =
-    let P : List ℕ → Type 0 = λ t. IsRefusedBy (refuses t) e in
-    untouched {stage = Reading {A = A} number (reads text) (refuses text)} words shelf (Err (stop_of_chart number e)) (comes_not number (reads text) (refuses text) (at_shelf words shelf) shelf.faults e (subst P same h)) (not_read number e)
+pub made_not : {A : Type 0} (number : ℕ) (reads : List ℕ → A → Type 0) (refuses : List ℕ → ℕ → text_error.Refusal → Type 0) {text bytes : List ℕ} {words : List (List ℕ)} {shelf : ShelfState} (e : ChartError) → bytes ≡ text → IsRefusedBy (refuses bytes) e → Made (Reading (text_refusal number) (reads text) (refuses text)) words shelf shelf (Err (stop_of_chart number e))
+made_not number reads refuses (chart_error.Fault line kind) same h = made_refused (text_refusal number) reads refuses line (met.Fault kind) same h
+made_not number reads refuses (chart_error.Limit line which) same h = made_refused (text_refusal number) reads refuses line (met.Limit which) same h
+made_not number reads refuses {text} chart_error.Memory same h = made_unread (text_refusal number) (reads text) (refuses text)

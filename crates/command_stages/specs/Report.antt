@@ -5,9 +5,13 @@ use Rattle.chart_syntax.specs.declared.error.Kind.{Kind}
 use Rattle.chart_syntax.specs.declared.error.Kind.TheVariants as kind
 use Rattle.chart_syntax.specs.declared.error.Which.{Which}
 use Rattle.chart_syntax.specs.declared.error.Which.TheVariants as which
+use Rattle.suite_reading.specs.declared.error.SuiteKind.{SuiteKind}
+use Rattle.suite_reading.specs.declared.error.SuiteKind.TheVariants as suite_kind
+use Rattle.suite_reading.specs.declared.error.SuiteWhich.{SuiteWhich}
+use Rattle.suite_reading.specs.declared.error.SuiteWhich.TheVariants as suite_which
 use Rattle.command_stages.specs.declared.stop.Refusal.{Refusal}
 pub use Rattle.command_words.specs.Command.{word_at}
-use Rattle.command_stages.specs.declared.stop.Refusal.TheVariants.{Fault, Limit, TooLong, NoInput, Unfit, Beyond, BoundBelow}
+use Rattle.command_stages.specs.declared.stop.Refusal.TheVariants.{Fault, Limit, SuiteFault, SuiteLimit, TooLong, NoInput, Unfit, Beyond, BoundBelow}
 use Rattle.command_stages.specs.declared.stop.SignaturePlace.{SignaturePlace}
 use Rattle.command_stages.specs.declared.stop.SignaturePlace.TheVariants as place
 use Rattle.command_stages.specs.declared.stop.Quantity.{Quantity}
@@ -26,6 +30,8 @@ name_of words Replies = codes "-"
 abbrev pub status_of_refusal : Refusal → ℕ
 status_of_refusal (Fault name line k) = 3
 status_of_refusal (Limit name line w) = 4
+status_of_refusal (SuiteFault name line k) = 3
+status_of_refusal (SuiteLimit name line w) = 4
 status_of_refusal (TooLong name) = 4
 status_of_refusal (NoInput name) = 3
 status_of_refusal (Unfit name p) = 3
@@ -51,6 +57,8 @@ abbrev pub source_of : Stop → Option Source
 source_of (Unread source) = Some source
 source_of (Refused (Fault name line k)) = Some (Word name)
 source_of (Refused (Limit name line w)) = Some (Word name)
+source_of (Refused (SuiteFault name line k)) = Some (Word name)
+source_of (Refused (SuiteLimit name line w)) = Some (Word name)
 source_of (Refused (TooLong name)) = Some (Word name)
 source_of (Refused (NoInput name)) = Some (Word name)
 source_of (Refused (Unfit name p)) = Some (Word name)
@@ -60,6 +68,8 @@ source_of other = None
 abbrev pub line_of_stop : Stop → Option ℕ
 line_of_stop (Refused (Fault name line k)) = Some line
 line_of_stop (Refused (Limit name line w)) = Some line
+line_of_stop (Refused (SuiteFault name line k)) = Some line
+line_of_stop (Refused (SuiteLimit name line w)) = Some line
 line_of_stop other = None
 
 -- the word for a kind of fault
@@ -96,6 +106,23 @@ limit_word which.Depth = codes "depth"
 limit_word which.Transitions = codes "transitions"
 limit_word which.Rows = codes "rows"
 
+-- the word for a kind of fault of a suite's text
+abbrev pub suite_kind_word : SuiteKind → List ℕ
+suite_kind_word suite_kind.Form = codes "form"
+suite_kind_word suite_kind.Fact = codes "fact"
+suite_kind_word suite_kind.Vector = codes "vector"
+suite_kind_word suite_kind.Conflict = codes "conflict"
+suite_kind_word suite_kind.Count = codes "count"
+suite_kind_word suite_kind.End = codes "end"
+
+-- the word for a limit of a suite's text
+abbrev pub suite_limit_word : SuiteWhich → List ℕ
+suite_limit_word suite_which.Literal = codes "literal"
+suite_limit_word suite_which.NameBytes = codes "name"
+suite_limit_word suite_which.Inputs = codes "inputs"
+suite_limit_word suite_which.Outputs = codes "outputs"
+suite_limit_word suite_which.Classes = codes "classes"
+
 -- the word for a quantity
 abbrev pub quantity_word : Quantity → List ℕ
 quantity_word quantity.Coefficient = codes "coefficient"
@@ -121,7 +148,9 @@ number_in other = None
 abbrev pub before_of : Stop → List ℕ
 before_of (Refused (Limit name line w)) = codes ": limit "
 before_of (Refused (TooLong name)) = codes ": limit "
+before_of (Refused (SuiteLimit name line w)) = codes ": limit "
 before_of (Refused (Fault name line k)) = codes ": "
+before_of (Refused (SuiteFault name line k)) = codes ": "
 before_of (Refused (NoInput name)) = codes ": "
 before_of (Refused (Unfit name p)) = codes ": unfit "
 before_of (Refused (Beyond q)) = codes "limit "
@@ -133,6 +162,8 @@ abbrev pub word_of : Stop → List ℕ
 word_of NoCommand = codes "no such command"
 word_of (Refused (Fault name line k)) = kind_word k
 word_of (Refused (Limit name line w)) = limit_word w
+word_of (Refused (SuiteFault name line k)) = suite_kind_word k
+word_of (Refused (SuiteLimit name line w)) = suite_limit_word w
 word_of (Refused (TooLong name)) = codes "bytes"
 word_of (Refused (NoInput name)) = codes "no input"
 word_of (Refused (Unfit name p)) = place_word p

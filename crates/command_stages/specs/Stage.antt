@@ -2,10 +2,12 @@
 use Rattle.std.specs.Prelude.{◌≡◌, ℕ, Bool, ◌≤◌, List, [], ◌∷◌, ◌++◌, length, Option, IsSome, ◌⊎◌, Result, Ok, Err}
 use Rattle.chart_syntax.specs.declared.error.Refusal as text_error
 use Rattle.chart_syntax.specs.declared.error.Refusal.TheVariants as met
+use Rattle.suite_reading.specs.declared.error.Cause.{Cause}
+use Rattle.suite_reading.specs.declared.error.Cause.TheVariants as cause
 use Rattle.test_world.specs.Count.{Rose}
 use Rattle.test_world.specs.Shelf.{ShelfState, Held, held_of, Holds, HoldsMoreThan, HasName, Keeps, Visits, IsSound}
 use Rattle.command_stages.specs.declared.stop.Refusal.{Refusal}
-use Rattle.command_stages.specs.declared.stop.Refusal.TheVariants.{Fault, Limit, TooLong}
+use Rattle.command_stages.specs.declared.stop.Refusal.TheVariants.{Fault, Limit, SuiteFault, SuiteLimit, TooLong}
 use Rattle.command_stages.specs.declared.stop.Source.{Source}
 use Rattle.command_stages.specs.declared.stop.Source.TheVariants.{Word}
 use Rattle.command_stages.specs.declared.stop.Stop.{Stop}
@@ -50,14 +52,22 @@ TextAt number most given sources (Err (Refused refusal)) = (sources ≡ Word num
 TextAt number most given sources (Err (Unread source)) = (sources ≡ Word number ∷ []) × (source ≡ Word number)
 TextAt number most given sources (Err other) = (sources ≡ Word number ∷ []) × (other ≡ NoMemory)
 
--- what the text that the word with this number names reads as, or the first line of it that a check refuses
-unfoldable pub Reading : {A : Type 0} → ℕ → (A → Type 0) → (ℕ → text_error.Refusal → Type 0) → Stage A
-Reading number reads refuses given sources (Ok a) = (sources ≡ []) × reads a
-Reading number reads refuses given sources (Err (Refused (Fault name line kind))) =
-    (sources ≡ []) × (name ≡ number) × refuses line (met.Fault kind)
-Reading number reads refuses given sources (Err (Refused (Limit name line which))) =
-    (sources ≡ []) × (name ≡ number) × refuses line (met.Limit which)
-Reading number reads refuses given sources (Err other) = (sources ≡ []) × (other ≡ NoMemory)
+-- the refusal of the text that the word with this number names, for a line of it and what is met there
+abbrev pub text_refusal : ℕ → ℕ → text_error.Refusal → Refusal
+text_refusal name line (met.Fault kind) = Fault name line kind
+text_refusal name line (met.Limit which) = Limit name line which
+
+-- the same of the text of a suite
+abbrev pub suite_refusal : ℕ → ℕ → Cause → Refusal
+suite_refusal name line (cause.Fault kind) = SuiteFault name line kind
+suite_refusal name line (cause.Limit which) = SuiteLimit name line which
+
+-- what a text reads as, or the refusal for the first line of it that a check refuses
+unfoldable pub Reading : {A C : Type 0} → (ℕ → C → Refusal) → (A → Type 0) → (ℕ → C → Type 0) → Stage A
+Reading {A} {C} refusal reads refuses given sources (Ok a) = (sources ≡ []) × reads a
+Reading {A} {C} refusal reads refuses given sources (Err (Refused other)) = (sources ≡ [])
+    × (line : ℕ) × (met : C) × (other ≡ refusal line met) × refuses line met
+Reading {A} {C} refusal reads refuses given sources (Err other) = (sources ≡ []) × (other ≡ NoMemory)
 
 -- a whole text, and whether what it tells of passes
 pub record Printed : Type 0 where
@@ -133,8 +143,7 @@ pub record IsProper {A : Type 0} (may_read : Source → Type 0) (stage : Stage A
       → may_read source
 
 -- for a text there is at most one reading or one refusal
-pub record IsDecidedBy {A : Type 0} (reads : A → Type 0) (refuses : ℕ → text_error.Refusal → Type 0) : Type 0 where
+pub record IsDecidedBy {A C : Type 0} (reads : A → Type 0) (refuses : ℕ → C → Type 0) : Type 0 where
   pub one_reading : (a b : A) → reads a → reads b → a ≡ b
-  pub one_refusal : (n m : ℕ) (met other : text_error.Refusal) → refuses n met → refuses m other
-      → (n ≡ m) × (met ≡ other)
-  pub apart : (a : A) (n : ℕ) (met : text_error.Refusal) → reads a → refuses n met → ⊥
+  pub one_refusal : (n m : ℕ) (met other : C) → refuses n met → refuses m other → (n ≡ m) × (met ≡ other)
+  pub apart : (a : A) (n : ℕ) (met : C) → reads a → refuses n met → ⊥

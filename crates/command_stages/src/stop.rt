@@ -1,7 +1,8 @@
 ghost use Rattle.std.specs.Prelude.{◌≡◌, ◌≤◌, length};
-ghost use Rattle.command_stages.specs.Report.{status_of_refusal, status_of_stop, source_of, line_of_stop, before_of, word_of, number_of, bounds_of, kind_word, limit_word, place_word, number_in, quantity_word};
+ghost use Rattle.command_stages.specs.Report.{status_of_refusal, status_of_stop, source_of, line_of_stop, before_of, word_of, number_of, bounds_of, kind_word, limit_word, suite_kind_word, suite_limit_word, place_word, number_in, quantity_word};
 
 use chart_syntax::{Kind, Which};
+use suite_reading::{SuiteKind, SuiteWhich};
 
 /// Why the answer to a command is no text. `name` is the number of the word that names the text that is refused, counted
 /// from 0; lines count from 1.
@@ -18,6 +19,18 @@ pub enum Refusal {
         name: usize,
         line: usize,
         which: Which,
+    },
+    /// The text of a suite has a fault.
+    SuiteFault {
+        name: usize,
+        line: usize,
+        kind: SuiteKind,
+    },
+    /// The text of a suite passes a limit.
+    SuiteLimit {
+        name: usize,
+        line: usize,
+        which: SuiteWhich,
     },
     /// A text is too long.
     TooLong {
@@ -99,8 +112,9 @@ impl Refusal {
         ensures { result ≡ status_of_refusal self }
     {
         match self {
-            Refusal::Fault { .. } | Refusal::NoInput { .. } | Refusal::Unfit { .. } => 3,
-            Refusal::Limit { .. } | Refusal::TooLong { .. } => 4,
+            Refusal::Fault { .. } | Refusal::SuiteFault { .. } => 3,
+            Refusal::NoInput { .. } | Refusal::Unfit { .. } => 3,
+            Refusal::Limit { .. } | Refusal::SuiteLimit { .. } | Refusal::TooLong { .. } => 4,
             Refusal::Beyond(_) | Refusal::BoundBelow { .. } => 4,
         }
     }
@@ -127,6 +141,8 @@ impl Stop {
             Stop::Unread(source) => Some(source),
             Stop::Refused(Refusal::Fault { name, .. }) => Some(Source::Word(name)),
             Stop::Refused(Refusal::Limit { name, .. }) => Some(Source::Word(name)),
+            Stop::Refused(Refusal::SuiteFault { name, .. }) => Some(Source::Word(name)),
+            Stop::Refused(Refusal::SuiteLimit { name, .. }) => Some(Source::Word(name)),
             Stop::Refused(Refusal::TooLong { name }) => Some(Source::Word(name)),
             Stop::Refused(Refusal::NoInput { name }) => Some(Source::Word(name)),
             Stop::Refused(Refusal::Unfit { name, .. }) => Some(Source::Word(name)),
@@ -141,6 +157,8 @@ impl Stop {
         match self {
             Stop::Refused(Refusal::Fault { line, .. }) => Some(line),
             Stop::Refused(Refusal::Limit { line, .. }) => Some(line),
+            Stop::Refused(Refusal::SuiteFault { line, .. }) => Some(line),
+            Stop::Refused(Refusal::SuiteLimit { line, .. }) => Some(line),
             _ => None,
         }
     }
@@ -152,7 +170,9 @@ impl Stop {
     {
         match self {
             Stop::Refused(Refusal::Limit { .. } | Refusal::TooLong { .. }) => b": limit ",
+            Stop::Refused(Refusal::SuiteLimit { .. }) => b": limit ",
             Stop::Refused(Refusal::Fault { .. } | Refusal::NoInput { .. }) => b": ",
+            Stop::Refused(Refusal::SuiteFault { .. }) => b": ",
             Stop::Refused(Refusal::Unfit { .. }) => b": unfit ",
             Stop::Refused(Refusal::Beyond(_)) => b"limit ",
             Stop::Unread(_) => b": ",
@@ -169,6 +189,8 @@ impl Stop {
             Stop::NoCommand => b"no such command",
             Stop::Refused(Refusal::Fault { kind, .. }) => kind_word(kind),
             Stop::Refused(Refusal::Limit { which, .. }) => limit_word(which),
+            Stop::Refused(Refusal::SuiteFault { kind, .. }) => suite_kind_word(kind),
+            Stop::Refused(Refusal::SuiteLimit { which, .. }) => suite_limit_word(which),
             Stop::Refused(Refusal::TooLong { .. }) => b"bytes",
             Stop::Refused(Refusal::NoInput { .. }) => b"no input",
             Stop::Refused(Refusal::Unfit { place, .. }) => place_word(place),
@@ -283,5 +305,34 @@ pub fn limit_word(which: Which) -> &'static [u8]
         Which::Depth => b"depth",
         Which::Transitions => b"transitions",
         Which::Rows => b"rows",
+    }
+}
+
+/// The word for a kind of fault of a suite's text.
+pub fn suite_kind_word(kind: SuiteKind) -> &'static [u8]
+    ensures word { result.now ≡ suite_kind_word kind }
+    ensures short { length result.now ≤ 20 }
+{
+    match kind {
+        SuiteKind::Form => b"form",
+        SuiteKind::Fact => b"fact",
+        SuiteKind::Vector => b"vector",
+        SuiteKind::Conflict => b"conflict",
+        SuiteKind::Count => b"count",
+        SuiteKind::End => b"end",
+    }
+}
+
+/// The word for a limit of a suite's text.
+pub fn suite_limit_word(which: SuiteWhich) -> &'static [u8]
+    ensures word { result.now ≡ suite_limit_word which }
+    ensures short { length result.now ≤ 20 }
+{
+    match which {
+        SuiteWhich::Literal => b"literal",
+        SuiteWhich::NameBytes => b"name",
+        SuiteWhich::Inputs => b"inputs",
+        SuiteWhich::Outputs => b"outputs",
+        SuiteWhich::Classes => b"classes",
     }
 }

@@ -1,10 +1,11 @@
 //! The words of the lines on `err`.
-use crate::stop::{kind_word, limit_word, quantity_word};
+use crate::stop::{kind_word, limit_word, quantity_word, suite_kind_word, suite_limit_word};
 use crate::{Line, Quantity, Refusal, SignaturePlace, Stop};
 use chart_syntax::{Kind, Which};
+use suite_reading::{SuiteKind, SuiteWhich};
 
 #[test]
-fn words_of_kinds_and_limits(rt: HostRuntime) {
+fn words_of_kinds(rt: HostRuntime) {
     let kinds = [
         (Kind::Byte, "byte"),
         (Kind::Version, "version"),
@@ -23,6 +24,10 @@ fn words_of_kinds_and_limits(rt: HostRuntime) {
     for (kind, word) in kinds {
         assert_eq!(rt; kind_word(kind), word.as_bytes());
     }
+}
+
+#[test]
+fn words_of_limits(rt: HostRuntime) {
     let limits = [
         (Which::NameBytes, "name"),
         (Which::Literal, "literal"),
@@ -43,6 +48,10 @@ fn words_of_kinds_and_limits(rt: HostRuntime) {
     for (which, word) in limits {
         assert_eq!(rt; limit_word(which), word.as_bytes());
     }
+}
+
+#[test]
+fn words_of_quantities(rt: HostRuntime) {
     let quantities = [
         (Quantity::Coefficient, "coefficient"),
         (Quantity::Atoms, "atoms"),
@@ -55,13 +64,48 @@ fn words_of_kinds_and_limits(rt: HostRuntime) {
     }
 }
 
+#[test]
+fn words_of_suites(rt: HostRuntime) {
+    let kinds = [
+        (SuiteKind::Form, "form"),
+        (SuiteKind::Fact, "fact"),
+        (SuiteKind::Vector, "vector"),
+        (SuiteKind::Conflict, "conflict"),
+        (SuiteKind::Count, "count"),
+        (SuiteKind::End, "end"),
+    ];
+    for (kind, word) in kinds {
+        assert_eq!(rt; suite_kind_word(kind), word.as_bytes());
+    }
+    let limits = [
+        (SuiteWhich::Literal, "literal"),
+        (SuiteWhich::NameBytes, "name"),
+        (SuiteWhich::Inputs, "inputs"),
+        (SuiteWhich::Outputs, "outputs"),
+        (SuiteWhich::Classes, "classes"),
+    ];
+    for (which, word) in limits {
+        assert_eq!(rt; suite_limit_word(which), word.as_bytes());
+    }
+}
+
 fn unfit(place: SignaturePlace) -> Refusal {
     Refusal::Unfit { name: 4, place }
 }
 
 #[test]
 fn lines_of_refusals(rt: HostRuntime) {
+    let name = 1;
+    let line = 30;
+    let kind = SuiteKind::End;
+    let which = SuiteWhich::Classes;
     let refusals = [
+        (Refusal::SuiteFault { name, line, kind }, ":30: end\n", 3),
+        (
+            Refusal::SuiteLimit { name, line, which },
+            ":30: limit classes\n",
+            4,
+        ),
         (Refusal::NoInput { name: 1 }, ": no input\n", 3),
         (unfit(SignaturePlace::Inputs), ": unfit inputs\n", 3),
         (unfit(SignaturePlace::Input(2)), ": unfit input 2\n", 3),
