@@ -1,18 +1,16 @@
 -- The stages of a run: the implementation, its fit, and the verdict.
-use Rattle.std.specs.Prelude.{◌≡◌, ℕ, ◌+◌, Bool, true, false, Option, Some, None}
+use Rattle.std.specs.Prelude.{ℕ, ◌+◌, Option, Some, None}
 use Rattle.lin_form.specs.declared.signature.Signature.{Signature}
 use Rattle.subject.specs.Suite.{SuiteParts, tests_of}
 use Rattle.impl_table.specs.declared.fit.Unfit.{Unfit}
 use Rattle.impl_table.specs.declared.fit.Unfit.TheVariants as unfit
 use Rattle.impl_table.specs.Fitting.{first_difference}
 use Rattle.test_subject.specs.declared.verdict.Verdict.{Verdict}
-use Rattle.test_subject.specs.declared.verdict.Verdict.TheVariants.{Pass, Fail}
 use Rattle.test_subject.specs.Verdict.{IsVerdict}
-use Rattle.verdict_report.specs.Text.{verdict_text}
 use Rattle.command_stages.specs.declared.stop.SignaturePlace.{SignaturePlace}
 use Rattle.command_stages.specs.declared.stop.SignaturePlace.TheVariants as place
 use Rattle.command_stages.specs.declared.stop.Refusal.TheVariants as refusal
-use Rattle.command_stages.specs.Stage.{Stage, Then, Is, Unless, TextAt, Reading, Printed}
+use Rattle.command_stages.specs.Stage.{Stage, Then, Is, Unless, TextAt, Reading, text_refusal}
 use Rattle.command_stages.specs.Texts.{most_bytes}
 use Rattle.run_stages.specs.declared.implementation.Implementation.{Implementation}
 use Rattle.run_stages.specs.Implementations.{answers_of, ReadsImplementation, RefusesImplementation}
@@ -20,7 +18,7 @@ use Rattle.run_stages.specs.Implementations.{answers_of, ReadsImplementation, Re
 -- the implementation that the word with this number names
 abbrev pub ImplementationAt : ℕ → Stage Implementation
 ImplementationAt number = Then (TextAt number most_bytes)
-    (λ text. Reading number (ReadsImplementation text) (RefusesImplementation text))
+    (λ text. Reading (text_refusal number) (ReadsImplementation text) (RefusesImplementation text))
 
 -- the place of a difference, where inputs and outputs are counted from 1
 abbrev pub place_of : Unfit → SignaturePlace
@@ -42,12 +40,3 @@ FitsOver name model other = FitsBy name (first_difference model other)
 -- the verdict on an implementation
 abbrev pub VerdictOver : SuiteParts → Implementation → Stage Verdict
 VerdictOver suite implementation = Is (IsVerdict (answers_of implementation) (tests_of suite))
-
--- every reply is the expected one
-abbrev pub is_pass : Verdict → Bool
-is_pass Pass = true
-is_pass (Fail test step given) = false
-
--- the verdict's text, which passes where the verdict does
-abbrev pub printed_verdict : SuiteParts → Verdict → Printed
-printed_verdict suite verdict = record { passes = is_pass verdict; text = verdict_text (tests_of suite) verdict }

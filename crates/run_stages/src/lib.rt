@@ -1,5 +1,5 @@
 //! The stages of the commands that run a suite on an implementation: the chart or the table that a text is, whether it
-//! fits, the verdict, and its text.
+//! fits, and the verdict.
 #![tactic(auto)]
 
 mod first_line;
@@ -14,4 +14,4 @@ pub use first_line::is_table;
 pub use fitting::fits_over;
 pub use implementation::Implementation;
 pub use reading::implementation_at;
-pub use verdict::{VerdictLines, verdict_over};
+pub use verdict::verdict_over;
