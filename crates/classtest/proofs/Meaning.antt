@@ -19,7 +19,7 @@ use Rattle.guard_atoms.specs.Atoms.{atoms_in}
 use Rattle.lin_form.specs.Atom.{inequality_of}
 use Rattle.input_classes.specs.VectorSet.{VectorSet}
 use Rattle.command_words.specs.declared.command.Command.{Command}
-use Rattle.command_words.specs.declared.command.Command.TheVariants.{Play, Classes, Suite, Run as RunSuite}
+use Rattle.command_words.specs.declared.command.Command.TheVariants.{Play, Classes, Suite, Run as RunSuite, Json, Replay}
 use Rattle.command_words.specs.Command.{command_of, IsCommand}
 use Rattle.command_stages.specs.declared.stop.Source.{Source}
 use Rattle.command_stages.specs.declared.stop.Stop.{Stop}
@@ -36,14 +36,19 @@ use Rattle.impl_table.specs.Fitting.{first_difference}
 use Rattle.subject.specs.Domain.{IsFitting}
 use Rattle.run_stages.specs.declared.implementation.Implementation.{Implementation}
 use Rattle.run_stages.specs.Implementations.{signature_of}
-use Rattle.run_stages.specs.Stages.{printed_verdict}
+use Rattle.verdict_report.specs.Json.{json_text}
+use Rattle.judge_stages.specs.Verdicts.{Judgement, Printing, is_pass, printed_verdict, verdict_lines}
+use Rattle.judge_stages.proofs.Suited.{suite_over}
 use Rattle.run_stages.proofs.Fits.{has_fit}
-use Rattle.classtest.specs.Ends.{PlayEnds, ClassesEnds, SuiteEnds, RunEnds, AnswersCommand, Answers}
+use Rattle.classtest.specs.Ends.{PlayEnds, ClassesEnds, SuiteEnds, RunEnds, ReplayEnds, AnswersCommand, Answers}
 use Rattle.classtest.specs.Play.{play_text}
 use Rattle.classtest.specs.Inputs.{IsChartAt, AreCutsAt, AreInputsOf}
 use Rattle.classtest.specs.Runs.{IsRunOf}
 use Rattle.classtest.specs.Means.{AreClassesOf, IsSuiteOf, Means, PutsMeaning}
-use Rattle.classtest.proofs.Running.{implementation_at, suite_over, shows}
+use Rattle.classtest.proofs.Running.{implementation_at, shows}
+use Rattle.classtest.proofs.Replaying.{shows_replay}
+use Rattle.classtest.specs.Replays.{IsSuiteAt, IsReplayOf}
+use Rattle.replay_stages.specs.Suites.{SuiteAt}
 
 chart_at : (given : Given) (sources : List Source) (chart : Chart) → ChartAt 1 given sources (Ok chart) → IsChartAt 1 given chart
 unfolding Then TextAt Reading
@@ -112,12 +117,12 @@ plays : (given : Given) (sources : List Source) (passes : Bool) (text : List ℕ
 unfolding Then Is
 plays given sources passes text (chart, a, b, c, is_chart, (word, d, e, f, is_word, printed)) = passes_of text (play_text chart word) passes true printed.1
 
-is_run : (bound : ℕ) (named : Bool) (given : Given) (sources : List Source) (passes : Bool) (text : List ℕ) → RunEnds bound named given sources (Ok (record { passes = passes; text = text })) → IsRunOf bound named given passes text
+is_run : (printing : Printing) (bound : ℕ) (named : Bool) (given : Given) (sources : List Source) (passes : Bool) (text : List ℕ) → RunEnds printing bound named given sources (Ok (record { passes = passes; text = text })) → IsRunOf printing bound named given passes text
 unfolding Then Is
-is_run bound named given sources passes text (chart, a, b, c, is_chart, (cuts, d, e, f, are_cuts, (i, g, h, j, is, (u, k, l, m, fit, (r, n, o, p, are, (suite, q, s, t, made, (v, w, x, y, judged, printed))))))) =
+is_run printing bound named given sources passes text (judgement, first, last, both, (chart, a, b, c, is_chart, (cuts, d, e, f, are_cuts, (i, g, h, j, is, (u, k, l, m, fit, (r, n, o, p, are, (suite, q, s, t, made, (v, w, x, y, judged, made_of))))))), printed) =
     let partition = classes_over chart cuts given n r are in
     let shape = suite_over bound chart r given q suite made in
-    let same = printed_verdict suite v in
+    let same = printed.1 ∙ ap (printed_verdict printing) made_of.1 in
     record {
       inputs = record { chart = chart; cuts = cuts; partition = r; is_chart = chart_at given a chart is_chart; are_cuts = cuts_at named 3 chart.signature given d cuts are_cuts; is_partition = partition };
       implementation = i;
@@ -127,9 +132,30 @@ is_run bound named given sources passes text (chart, a, b, c, is_chart, (cuts, d
       shape = shape;
       verdict = v;
       is_verdict = judged.1;
-      same_text = text_of text same.text passes same.passes printed.1;
-      same_passes = passes_of text same.text passes same.passes printed.1;
+      same_text = text_of text (printing suite v) passes (is_pass v) same;
+      same_passes = passes_of text (printing suite v) passes (is_pass v) same;
       shows = shows chart r bound suite i v (covers chart cuts r partition) shape judged.1;
+    }
+
+suite_at : (given : Given) (sources : List Source) (suite : SuiteParts) → SuiteAt 1 given sources (Ok suite) → IsSuiteAt 1 given suite
+unfolding Then TextAt Reading
+suite_at given sources suite (text, u, v, e, p, q) = (text, p.1, q.1)
+
+is_replay : (given : Given) (sources : List Source) (passes : Bool) (text : List ℕ) → ReplayEnds given sources (Ok (record { passes = passes; text = text })) → IsReplayOf given passes text
+unfolding Then Is
+is_replay given sources passes text (suite, a, b, c, is_suite, (i, d, e, f, is, (u, g, h, j, fit, (judgement, k, l, m, (v, n, o, p, judged, made_of), printed)))) =
+    let same = printed.1 ∙ ap (printed_verdict verdict_lines) made_of.1 in
+    record {
+      suite = suite;
+      is_suite = suite_at given a suite is_suite;
+      implementation = i;
+      is_implementation = implementation_at 2 given d i is;
+      fits = has_fit 2 suite.signature (signature_of i) given g fit;
+      verdict = v;
+      is_verdict = judged.1;
+      same_text = text_of text (verdict_lines suite v) passes (is_pass v) same;
+      same_passes = passes_of text (verdict_lines suite v) passes (is_pass v) same;
+      shows = shows_replay (tests_of suite) i v judged.1;
     }
 
 shown : ActAlike → (o : Option Command) (given : Given) (sources : List Source) (passes : Bool) (text : List ℕ) → AnswersCommand o given sources (record { put = text; ends = Ok passes }) → Means o given passes text
@@ -137,7 +163,9 @@ shown law None given sources passes text h = let e : Ok passes ≡ Err NoCommand
 shown law (Some Play) given sources passes text h = plays given sources passes text h
 shown law (Some (Classes named)) given sources passes text h = are_classes law named given sources passes text h
 shown law (Some (Suite bound named)) given sources passes text h = is_suite law bound named given sources passes text h
-shown law (Some (RunSuite bound named)) given sources passes text h = is_run bound named given sources passes text h
+shown law (Some (RunSuite bound named)) given sources passes text h = is_run verdict_lines bound named given sources passes text h
+shown law (Some Replay) given sources passes text h = is_replay given sources passes text h
+shown law (Some (Json bound named)) given sources passes text h = is_run json_text bound named given sources passes text h
 
 pub meant : ActAlike → (run : Run) (passes : Bool) → IsRun Answers (IsCommand run.words) run (Ok passes) → PutsMeaning (command_of run.words) run passes
 meant law run passes h = let (text, is_for, put) = h.ends in (text, put, shown law (command_of run.words) (given_of run) is_for.0 passes text is_for.1)

@@ -2,24 +2,29 @@
 use Rattle.std.proofs.Common.{◌≡◌, ℕ, Bool, true, List, Option, Some, None, Err, refl, sym, ◌∙◌, subst, inl, inr}
 use Rattle.std.specs.Prelude.{IsSome}
 use Rattle.command_words.specs.declared.command.Command.{Command}
-use Rattle.command_words.specs.declared.command.Command.TheVariants.{Play, Classes, Suite, Run}
+use Rattle.command_words.specs.declared.command.Command.TheVariants.{Play, Classes, Suite, Run, Json, Replay}
 use Rattle.command_words.specs.Command.{command_of}
 use Rattle.command_stages.specs.declared.stop.Source.{Source}
 use Rattle.command_stages.specs.declared.stop.Stop.TheVariants.{NoCommand, Unread}
 use Rattle.command_stages.specs.Stage.{Given, IsDetermined, IsProper, Prints}
 use Rattle.command_stages.specs.Serve.{Answer, answer, IsOne}
-use Rattle.command_stages.proofs.Proper.{proper_then, proper_is, proper_prints, whole_one}
+use Rattle.command_stages.proofs.Proper.{proper_then, proper_prints, whole_one}
 use Rattle.command_stages.proofs.ProperBy.{proper_beyond, IsMoved, moved_then}
 use Rattle.command_stages.proofs.Readers.{Charts, Words, chart_proper, word_proper}
+use Rattle.replay_stages.proofs.Proper.{SuiteTexts, suite_at_proper}
 use Rattle.class_stages.specs.Text.{classes_text}
 use Rattle.class_stages.proofs.Proper.{CutTexts, AreSame, cuts_proper, classes_like, text_same}
 use Rattle.chart_model.specs.declared.chart.Chart.{Chart}
 use Rattle.suite_stages.proofs.Proper.{suite_proper, suite_moved}
 use Rattle.run_stages.specs.Implementations.{signature_of}
-use Rattle.run_stages.proofs.Proper.{Tables, Verdicts, implementation_proper, fits_proper, verdict_proper}
-use Rattle.classtest.specs.Ends.{PlayEnds, ClassesEnds, SuiteEnds, RunEnds, AnswersCommand, Answers, MayRead, IsNamed}
+use Rattle.run_stages.proofs.Proper.{Tables, Verdicts, implementation_proper, fits_proper}
+use Rattle.judge_stages.specs.Verdicts.{Printing, verdict_lines}
+use Rattle.judge_stages.proofs.Proper.{judge_proper, judge_by_proper, prints_proper}
+use Rattle.verdict_report.specs.Json.{json_text}
+use Rattle.classtest.specs.Ends.{PlayEnds, ClassesEnds, SuiteEnds, RunEnds, ReplayEnds, AnswersCommand, Answers, MayRead, MayReadRun, IsNamed}
 
--- each text has at most one reading or refusal, as a chart, as a word over a chart, as cuts over a signature and as a table;
+-- each text has at most one reading or refusal, as a chart, as a word over a chart, as cuts over a signature, as a table and
+-- as a suite;
 -- and answers have at most one verdict on tests
 pub record AreDecided : Type 0 where
   pub charts : Charts
@@ -27,6 +32,7 @@ pub record AreDecided : Type 0 where
   pub cuts : CutTexts
   pub tables : Tables
   pub verdicts : Verdicts
+  pub suites : SuiteTexts
 
 play_proper : AreDecided → IsProper (MayRead Play) PlayEnds
 play_proper texts = proper_then _ _ (chart_proper texts.charts 1 (inl refl)) (λ chart. proper_then _ _ (word_proper texts.words 2 chart (inr refl)) (λ word. proper_prints _ _))
@@ -45,21 +51,24 @@ suite_ends_proper texts bound named =
     proper_then _ _ (chart_proper texts.charts 1 (inl refl)) (λ chart. proper_then _ _ (cuts_proper texts.cuts named 3 chart.signature (λ e. inr (e, refl))) (λ cuts.
     proper_beyond (AreSame chart.signature) _ _ (classes_like 1 chart cuts) (λ partition. proper_then _ _ (suite_proper bound chart partition) (λ suite. proper_prints _ _)) (moved_then (AreSame chart.signature) _ _ (suite_moved bound chart))))
 
-run_ends_proper : AreDecided → (bound : ℕ) (named : Bool) → IsProper (MayRead (Run bound named)) (RunEnds bound named)
-run_ends_proper texts bound named =
-    proper_then _ _ (chart_proper texts.charts 1 (inl refl)) (λ chart. proper_then _ _ (cuts_proper texts.cuts named 3 chart.signature (λ e. inr (inl (e, refl)))) (λ cuts.
-    proper_then _ _ (implementation_proper texts.charts texts.tables 4 (inr (inr refl))) (λ implementation.
-    proper_then _ _ (fits_proper 4 chart.signature (signature_of implementation)) (λ u.
-    proper_beyond (AreSame chart.signature) _ _ (classes_like 1 chart cuts) (λ partition. proper_then _ _ (suite_proper bound chart partition) (λ suite.
-    proper_then _ _ (verdict_proper texts.verdicts suite implementation) (λ verdict. proper_is _ (λ a b p q. p ∙ sym q))))
-    (moved_then (AreSame chart.signature) _ _ (suite_moved bound chart))))))
+run_ends_proper : AreDecided → (printing : Printing) (bound : ℕ) (named : Bool) → IsProper (MayReadRun named) (RunEnds printing bound named)
+run_ends_proper texts printing bound named =
+    proper_then _ _ (judge_proper texts.charts texts.cuts texts.tables texts.verdicts bound named (inl refl) (λ e. inr (inl (e, refl))) (inr (inr refl))) (prints_proper printing)
+
+replay_ends_proper : AreDecided → IsProper (MayRead Replay) ReplayEnds
+replay_ends_proper texts =
+    proper_then _ _ (suite_at_proper texts.suites 1 (inl refl)) (λ suite. proper_then _ _ (implementation_proper texts.charts texts.tables 2 (inr refl)) (λ implementation.
+    proper_then _ _ (fits_proper 2 suite.signature (signature_of implementation)) (λ u.
+    proper_then _ _ (judge_by_proper texts.verdicts suite implementation) (prints_proper verdict_lines))))
 
 one_command : AreDecided → (o : Option Command) (given : Given) → IsSome given.held → (s t : List Source) (x y : Answer) → IsDetermined x.ends → IsDetermined y.ends → AnswersCommand o given s x → AnswersCommand o given t y → x ≡ y
 one_command texts None given told s t x y d e p q = p.1 ∙ sym q.1
 one_command texts (Some Play) given told s t x y d e p q = whole_one (MayRead Play) PlayEnds (play_proper texts) given told s t x y d e p q
 one_command texts (Some (Classes named)) given told s t x y d e p q = whole_one (MayRead (Classes named)) (ClassesEnds named) (classes_proper texts named) given told s t x y d e p q
 one_command texts (Some (Suite bound named)) given told s t x y d e p q = whole_one (MayRead (Suite bound named)) (SuiteEnds bound named) (suite_ends_proper texts bound named) given told s t x y d e p q
-one_command texts (Some (Run bound named)) given told s t x y d e p q = whole_one (MayRead (Run bound named)) (RunEnds bound named) (run_ends_proper texts bound named) given told s t x y d e p q
+one_command texts (Some (Run bound named)) given told s t x y d e p q = whole_one (MayReadRun named) (RunEnds verdict_lines bound named) (run_ends_proper texts verdict_lines bound named) given told s t x y d e p q
+one_command texts (Some Replay) given told s t x y d e p q = whole_one (MayRead Replay) ReplayEnds (replay_ends_proper texts) given told s t x y d e p q
+one_command texts (Some (Json bound named)) given told s t x y d e p q = whole_one (MayReadRun named) (RunEnds json_text bound named) (run_ends_proper texts json_text bound named) given told s t x y d e p q
 
 pub one : AreDecided → IsOne Answers
 one texts given told s t x y d e p q = one_command texts (command_of given.words) given told s t x y d e p q
@@ -69,7 +78,9 @@ only_command texts None given sources put source is h = let e : Err (Unread sour
 only_command texts (Some Play) given sources put source is h = (Play, is, (play_proper texts).only given sources source h.1)
 only_command texts (Some (Classes named)) given sources put source is h = (Classes named, is, (classes_proper texts named).only given sources source h.1)
 only_command texts (Some (Suite bound named)) given sources put source is h = (Suite bound named, is, (suite_ends_proper texts bound named).only given sources source h.1)
-only_command texts (Some (Run bound named)) given sources put source is h = (Run bound named, is, (run_ends_proper texts bound named).only given sources source h.1)
+only_command texts (Some (Run bound named)) given sources put source is h = (Run bound named, is, (run_ends_proper texts verdict_lines bound named).only given sources source h.1)
+only_command texts (Some Replay) given sources put source is h = (Replay, is, (replay_ends_proper texts).only given sources source h.1)
+only_command texts (Some (Json bound named)) given sources put source is h = (Json bound named, is, (run_ends_proper texts json_text bound named).only given sources source h.1)
 
 pub only : AreDecided → (given : Given) (sources : List Source) (put : List ℕ) (source : Source) → Answers given sources (answer put (Err (Unread source))) → IsNamed given source
 only texts given sources put source h = only_command texts (command_of given.words) given sources put source refl h

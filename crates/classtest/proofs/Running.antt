@@ -1,12 +1,12 @@
 -- What a run shows.
-use Rattle.std.proofs.Common.{◌≡◌, ℕ, false, List, [], None, Result, Ok, sym, subst}
+use Rattle.std.proofs.Common.{ℕ, List, Ok}
 use Rattle.std.specs.List.{All}
 use Rattle.input_classes.specs.Partition.{Partition, Covers}
 use Rattle.input_classes.specs.VectorSet.{VectorSet}
 use Rattle.chart_model.specs.declared.chart.Chart.{Chart}
 use Rattle.chart_meaning.specs.Plan.{plan_of_chart}
 use Rattle.impl_table.specs.Plan.{plan_of_table}
-use Rattle.subject.specs.Domain.{IsFitting, box}
+use Rattle.subject.specs.Domain.{box}
 use Rattle.subject.specs.Method.{IsAnswered}
 use Rattle.subject.specs.Shape.{HasShape}
 use Rattle.subject.specs.Suite.{SuiteParts, tests_of}
@@ -17,25 +17,16 @@ use Rattle.test_subject.specs.declared.verdict.Verdict.{Verdict}
 use Rattle.test_subject.specs.declared.verdict.Verdict.TheVariants.{Pass, Fail}
 use Rattle.test_subject.specs.Verdict.{IsVerdict}
 use Rattle.command_stages.specs.declared.stop.Source.{Source}
-use Rattle.command_stages.specs.declared.stop.Stop.{Stop}
-use Rattle.command_stages.specs.Stage.{Given, Then, TextAt, Reading, Is, Unless, Printed, Made, Makes, at_shelf}
-use Rattle.suite_stages.specs.Suites.{SuiteOver}
-use Rattle.test_world.specs.Shelf.{ShelfState}
-use Rattle.lin_form.specs.declared.signature.Signature.{Signature}
+use Rattle.command_stages.specs.Stage.{Given, Then, TextAt, Reading}
 use Rattle.run_stages.specs.declared.implementation.Implementation.{Implementation}
 use Rattle.run_stages.specs.declared.implementation.Implementation.TheVariants.{Chart as OfChart, Table as OfTable}
 use Rattle.run_stages.specs.Implementations.{answers_of, signature_of}
 use Rattle.run_stages.specs.Stages.{ImplementationAt}
-use Rattle.classtest.specs.Ends.{RunOver}
 use Rattle.classtest.specs.Runs.{IsImplementationAt, ShowsDifference, Shows}
 
 pub implementation_at : (number : ℕ) (given : Given) (sources : List Source) (implementation : Implementation) → ImplementationAt number given sources (Ok implementation) → IsImplementationAt number given implementation
 unfolding Then TextAt Reading
 implementation_at number given sources implementation (text, u, v, e, p, q) = (text, p.1, q.1)
-
-pub suite_over : (bound : ℕ) (chart : Chart) (r : Partition) (given : Given) (sources : List Source) (s : SuiteParts) → SuiteOver bound chart r given sources (Ok s) → HasShape (plan_of_chart chart) r bound s
-unfolding Then Unless Is
-suite_over bound chart r given sources suite (a, b, c, d, e, (f, g, h, i, j, (k, l, m, n, o, (p, q, s, t, u, v)))) = v.1
 
 differs : (s : VectorSet) (chart : Chart) (i : Implementation) (tests : List TestCase) (failure : Failure) → All (IsAnswered s (plan_of_chart chart)) tests → IsFirstFailure (answers_of i) tests failure → ShowsDifference s chart i (failed_word tests failure)
 differs s chart (OfChart other) tests failure answered h =
@@ -53,21 +44,3 @@ shows chart r bound suite (OfTable table) Pass covers shape h = (h, λ inside. (
 shows chart r bound suite i (Fail test step given) covers shape h =
     let failure : Failure = record { test = test; step = step; given = given } in
     differs (box (plan_of_chart chart) r) chart i (tests_of suite) failure (shape_answered (plan_of_chart chart) r bound covers suite shape) h
-
--- a shelf that tells nothing
-no_shelf : ShelfState
-no_shelf = record { shown = None; visited = None; faults = 0; sound = false }
-
--- an implementation that fits the chart fits its suite
-pub fits_suite : (bound : ℕ) (chart : Chart) (r : Partition) (suite : SuiteParts) (i : Implementation) → Makes (SuiteOver bound chart r) (Ok suite) → IsFitting chart.signature (signature_of i) → IsFitting suite.signature (signature_of i)
-fits_suite bound chart r suite i makes fits =
-    let made = makes [] no_shelf in
-    let shape = suite_over bound chart r (at_shelf [] no_shelf) made.sources suite made.comes in
-    let P : Signature → Type 0 = λ s. IsFitting s (signature_of i) in
-    subst P (sym shape.suits.signature) fits
-
--- the plan of a chart, made ready or not
-pub over_chart : (bound : ℕ) (plan chart : Chart) (r : Partition) (i : Implementation) {words : List (List ℕ)} {shelf : ShelfState} {o : Result Printed Stop} → plan ≡ chart → Made (RunOver bound plan r i) words shelf shelf o → Made (RunOver bound chart r i) words shelf shelf o
-over_chart bound plan chart r i {words} {shelf} {o} same made =
-    let P : Chart → Type 0 = λ c. Made (RunOver bound c r i) words shelf shelf o in
-    subst P same made

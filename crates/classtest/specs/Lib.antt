@@ -2,4 +2,5 @@ pub mod Play
 pub mod Ends
 pub mod Inputs
 pub mod Runs
+pub mod Replays
 pub mod Means

@@ -7,13 +7,16 @@ use Rattle.subject.specs.Domain.{Complete, Inside, box}
 use Rattle.subject.specs.Shape.{HasShape}
 use Rattle.subject.specs.Suite.{SuiteParts, tests_of}
 use Rattle.suite_model.specs.Text.{suite_text}
+use Rattle.verdict_report.specs.Json.{json_text}
 use Rattle.command_words.specs.declared.command.Command.{Command}
-use Rattle.command_words.specs.declared.command.Command.TheVariants.{Classes, Suite, Run as RunSuite}
+use Rattle.command_words.specs.declared.command.Command.TheVariants.{Classes, Suite, Run as RunSuite, Json, Replay}
 use Rattle.command_stages.specs.Stage.{Given}
 use Rattle.command_stages.specs.Serve.{Run, given_of}
 use Rattle.class_stages.specs.Text.{classes_text}
+use Rattle.judge_stages.specs.Verdicts.{verdict_lines}
 use Rattle.classtest.specs.Inputs.{AreInputsOf}
 use Rattle.classtest.specs.Runs.{IsRunOf}
+use Rattle.classtest.specs.Replays.{IsReplayOf}
 
 -- the text is that of the classes of the held chart and cuts, and the members of each act alike in the chart
 pub record AreClassesOf (named : Bool) (given : Given) (text : List ℕ) : Type 0 where
@@ -36,7 +39,9 @@ pub record IsSuiteOf (bound : ℕ) (named : Bool) (given : Given) (text : List �
 abbrev pub Means : Option Command → Given → Bool → List ℕ → Type 0
 Means (Some (Classes named)) given passes text = (passes ≡ true) × AreClassesOf named given text
 Means (Some (Suite bound named)) given passes text = (passes ≡ true) × IsSuiteOf bound named given text
-Means (Some (RunSuite bound named)) given passes text = IsRunOf bound named given passes text
+Means (Some (RunSuite bound named)) given passes text = IsRunOf verdict_lines bound named given passes text
+Means (Some (Json bound named)) given passes text = IsRunOf json_text bound named given passes text
+Means (Some Replay) given passes text = IsReplayOf given passes text
 Means other given passes text = passes ≡ true
 
 -- a text was put to `out`, and this is what it shows

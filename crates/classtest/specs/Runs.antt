@@ -15,13 +15,12 @@ use Rattle.subject.specs.Tests.{Failure, TestCase, Passes, PartAtLast, failed_wo
 use Rattle.test_subject.specs.declared.verdict.Verdict.{Verdict}
 use Rattle.test_subject.specs.declared.verdict.Verdict.TheVariants.{Pass, Fail}
 use Rattle.test_subject.specs.Verdict.{IsVerdict}
-use Rattle.verdict_report.specs.Text.{verdict_text}
 use Rattle.command_stages.specs.Report.{word_at}
 use Rattle.command_stages.specs.Stage.{Given}
 use Rattle.run_stages.specs.declared.implementation.Implementation.{Implementation}
 use Rattle.run_stages.specs.declared.implementation.Implementation.TheVariants.{Chart as OfChart, Table as OfTable}
 use Rattle.run_stages.specs.Implementations.{ReadsImplementation, answers_of, signature_of}
-use Rattle.run_stages.specs.Stages.{is_pass}
+use Rattle.judge_stages.specs.Verdicts.{Printing, is_pass}
 use Rattle.classtest.specs.Inputs.{AreInputsOf}
 
 -- the text held under the word with this number reads as the implementation
@@ -56,9 +55,10 @@ Shows chart r bound tests implementation (Fail test step given) =
     let failure : Failure = record { test = test; step = step; given = given } in
     ShowsDifference (box (plan_of_chart chart) r) chart implementation (failed_word tests failure)
 
--- the text is that of the verdict on the held implementation, whose signature fits, by the suite with the shape for the
+-- the text is that of the verdict, printed so, on the held implementation, whose signature fits, by the suite with the shape for the
 -- held chart's plan, the classes of the chart and the held cuts, and the bound; and what the verdict shows
-pub record IsRunOf (bound : ℕ) (named : Bool) (given : Given) (passes : Bool) (text : List ℕ) : Type 0 where
+pub record IsRunOf (printing : Printing) (bound : ℕ) (named : Bool) (given : Given) (passes : Bool)
+    (text : List ℕ) : Type 0 where
   pub inputs : AreInputsOf 3 named given
   pub implementation : Implementation
   pub is_implementation : IsImplementationAt 4 given implementation
@@ -67,6 +67,6 @@ pub record IsRunOf (bound : ℕ) (named : Bool) (given : Given) (passes : Bool) 
   pub shape : HasShape (plan_of_chart inputs.chart) inputs.partition bound suite
   pub verdict : Verdict
   pub is_verdict : IsVerdict (answers_of implementation) (tests_of suite) verdict
-  pub same_text : text ≡ verdict_text (tests_of suite) verdict
+  pub same_text : text ≡ printing suite verdict
   pub same_passes : passes ≡ is_pass verdict
   pub shows : Shows inputs.chart inputs.partition bound (tests_of suite) implementation verdict

@@ -11,6 +11,7 @@ use chart_syntax::{chart_or_refusal, word_or_refusal};
 use cut_syntax::cuts_or_refusal;
 use guard_atoms::members_act_alike;
 use impl_table::table_or_refusal;
+use suite_reading::reading_is_one;
 use test_subject::verdict_on_answers;
 
 /// There is at most one answer to words and held texts, and a command reads none but the texts that its words name.
@@ -24,6 +25,7 @@ pub fn one_answer()
     word_or_refusal();
     cuts_or_refusal();
     table_or_refusal();
+    reading_is_one();
     verdict_on_answers();
 }
 

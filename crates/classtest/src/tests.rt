@@ -7,6 +7,7 @@ mod classes;
 mod edges;
 mod failing;
 mod order;
+mod replays;
 mod runs;
 mod suites;
 
@@ -216,6 +217,66 @@ fn check_no_output(
     let out = "";
     let expected = Expected { status, out, err };
     check(rt, alloc, line, texts, smooth(4_096), expected)
+}
+
+/// The words; the status; what is put to `out` and to `err`.
+#[derive(Clone, Copy)]
+struct Row {
+    line: &'static str,
+    status: u8,
+    out: &'static str,
+    err: &'static str,
+}
+
+/// A run that passes.
+const fn pass(line: &'static str) -> Row {
+    Row {
+        line,
+        status: 0,
+        out: "pass\n",
+        err: "",
+    }
+}
+
+/// A run that fails.
+const fn fail(line: &'static str, out: &'static str) -> Row {
+    Row {
+        line,
+        status: 1,
+        out,
+        err: "",
+    }
+}
+
+/// A call that is refused.
+const fn refused(line: &'static str, status: u8, err: &'static str) -> Row {
+    Row {
+        line,
+        status,
+        out: "",
+        err,
+    }
+}
+
+/// Calls the program with whole pieces and with pieces of one byte, and compares what it did.
+fn check_rows(
+    rt: &impl Abort,
+    alloc: Global,
+    texts: &[(&str, &str)],
+    rows: &[Row],
+) -> Result<(), AllocError> {
+    for row in rows {
+        let Row {
+            line,
+            status,
+            out,
+            err,
+        } = *row;
+        let expected = Expected { status, out, err };
+        check(rt, alloc, line, texts, smooth(4_096), expected)?;
+        check(rt, alloc, line, texts, smooth(1), expected)?;
+    }
+    Ok(())
 }
 
 /// A text with a piece that is repeated, where a piece may have a number in it.

@@ -6,8 +6,10 @@ ghost use Rattle.classtest.specs.Ends.{Answers};
 ghost use Rattle.classtest.specs.Means.{PutsMeaning};
 
 use crate::classes::classes;
+use crate::json::json;
 use crate::laws::{one_answer, texts_show};
 use crate::play::play;
+use crate::replay::replay;
 use crate::run::run;
 use crate::suite::suite;
 use command_stages::{Stop, finish, report};
@@ -37,13 +39,15 @@ fn serve<F: Shelf, K: Sink>(
             finish(suite(alloc, words, bound, cuts, shelf), out)
         }
         Some(Command::Run { bound, cuts }) => finish(run(alloc, words, bound, cuts, shelf), out),
+        Some(Command::Json { bound, cuts }) => finish(json(alloc, words, bound, cuts, shelf), out),
+        Some(Command::Replay) => finish(replay(alloc, words, shelf), out),
     }
 }
 
 /// All that the program does: `words` are the arguments after the program's name, and the answer is its status.
 ///
-/// 0: the whole text was put to `out`. 1: so it was, and it names a test that the implementation of `run` does not answer as
-/// expected. Otherwise one line was put to `err`, and the status is 2 for words that are no command, 3 for a text that has
+/// 0: the whole text was put to `out`. 1: so it was, and it names a test that the implementation of `run`, `json` or `replay`
+/// does not answer as expected. Otherwise one line was put to `err`, and the status is 2 for words that are no command, 3 for a text that has
 /// no reading, for an implementation that does not fit and for a chart whose assumptions no vector meets, 4 for a limit
 /// that is passed, a text that is too long and a bound below the number of states, 5 for a failed read or write, and 6
 /// for want of memory.

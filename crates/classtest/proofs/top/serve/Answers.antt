@@ -1,8 +1,10 @@
 use Rattle.std.proofs.Common.{◌≡◌, ◌∙◌, sym, map, Some}
 use Rattle.std.specs.Prelude.{string_bytes}
 use Rattle.command_words.specs.Command.{command_of}
-use Rattle.command_words.specs.declared.command.Command.TheVariants.{Play, Classes, Suite, Run}
-use Rattle.classtest.specs.Ends.{PlayEnds, ClassesEnds, SuiteEnds, RunEnds}
+use Rattle.command_words.specs.declared.command.Command.TheVariants.{Play, Classes, Suite, Run, Json, Replay}
+use Rattle.verdict_report.specs.Json.{json_text}
+use Rattle.judge_stages.specs.Verdicts.{verdict_lines}
+use Rattle.classtest.specs.Ends.{PlayEnds, ClassesEnds, SuiteEnds, RunEnds, ReplayEnds}
 use Rattle.classtest.proofs.Arms.{as_command, whole}
 use Rattle.classtest.proofs.top.serve.Goals as goal
 
@@ -29,4 +31,16 @@ returns-in-Some-Run g c =
     let bound = c.in-Some-Run.bound in
     let named = c.in-Some-Run.cuts in
     let e : command_of (map string_bytes c.args.words.now) ≡ Some (Run bound named) = sym (rw c.in-Some-Run.field-0-is at c.in-Some-Run.ensures.value) in
-    as_command e (whole (Run bound named) (RunEnds bound named) e c.run.ensures c.finish-in-Some-Run.ensures)
+    as_command e (whole (Run bound named) (RunEnds verdict_lines bound named) e c.run.ensures c.finish-in-Some-Run.ensures)
+
+pub returns-in-Some-Json : goal.returns-in-Some-Json
+returns-in-Some-Json g c =
+    let bound = c.in-Some-Json.bound in
+    let named = c.in-Some-Json.cuts in
+    let e : command_of (map string_bytes c.args.words.now) ≡ Some (Json bound named) = sym (rw c.in-Some-Json.field-0-is at c.in-Some-Json.ensures.value) in
+    as_command e (whole (Json bound named) (RunEnds json_text bound named) e c.json.ensures c.finish-in-Some-Json.ensures)
+
+pub returns-in-Some-Replay : goal.returns-in-Some-Replay
+returns-in-Some-Replay g c =
+    let e : command_of (map string_bytes c.args.words.now) ≡ Some Replay = sym (rw c.in-Some-Replay.field-0-is at c.in-Some-Replay.ensures.value) in
+    as_command e (whole Replay ReplayEnds e c.replay.ensures c.finish-in-Some-Replay.ensures)
