@@ -33,6 +33,86 @@ fn bytes_of(loaded: &Result<Text, LoadError>) -> Result<&[u8], LoadError> {
     }
 }
 
+const LOADED: [Loaded<'static>; 11] = [
+    Loaded {
+        name: "A",
+        most: 5,
+        chunk: 2,
+        bad: 0,
+        answer: Ok(b"hello"),
+    },
+    Loaded {
+        name: "A",
+        most: 5,
+        chunk: 100,
+        bad: 0,
+        answer: Ok(b"hello"),
+    },
+    Loaded {
+        name: "A",
+        most: 4,
+        chunk: 2,
+        bad: 0,
+        answer: Err(LoadError::TooLong),
+    },
+    Loaded {
+        name: "A",
+        most: 4,
+        chunk: 100,
+        bad: 0,
+        answer: Err(LoadError::TooLong),
+    },
+    Loaded {
+        name: "A",
+        most: 5,
+        chunk: 2,
+        bad: 1,
+        answer: Err(LoadError::Fault),
+    },
+    Loaded {
+        name: "A",
+        most: 5,
+        chunk: 2,
+        bad: 2,
+        answer: Err(LoadError::Fault),
+    },
+    Loaded {
+        name: "A",
+        most: 5,
+        chunk: 2,
+        bad: 5,
+        answer: Err(LoadError::Fault),
+    },
+    Loaded {
+        name: "A",
+        most: 5,
+        chunk: 2,
+        bad: 6,
+        answer: Ok(b"hello"),
+    },
+    Loaded {
+        name: "-",
+        most: 100,
+        chunk: 1,
+        bad: 0,
+        answer: Ok(b"input"),
+    },
+    Loaded {
+        name: "empty",
+        most: 0,
+        chunk: 1,
+        bad: 0,
+        answer: Ok(b""),
+    },
+    Loaded {
+        name: "B",
+        most: 5,
+        chunk: 2,
+        bad: 0,
+        answer: Err(LoadError::Fault),
+    },
+];
+
 #[test]
 fn loads_what_is_held(rt: HostRuntime) -> Result<(), Fail> {
     let pairs: [(&str, &[u8]); 4] = [
@@ -41,86 +121,7 @@ fn loads_what_is_held(rt: HostRuntime) -> Result<(), Fail> {
         ("A", b"other"),
         ("empty", b""),
     ];
-    let rows: [Loaded; 11] = [
-        Loaded {
-            name: "A",
-            most: 5,
-            chunk: 2,
-            bad: 0,
-            answer: Ok(b"hello"),
-        },
-        Loaded {
-            name: "A",
-            most: 5,
-            chunk: 100,
-            bad: 0,
-            answer: Ok(b"hello"),
-        },
-        Loaded {
-            name: "A",
-            most: 4,
-            chunk: 2,
-            bad: 0,
-            answer: Err(LoadError::TooLong),
-        },
-        Loaded {
-            name: "A",
-            most: 4,
-            chunk: 100,
-            bad: 0,
-            answer: Err(LoadError::TooLong),
-        },
-        Loaded {
-            name: "A",
-            most: 5,
-            chunk: 2,
-            bad: 1,
-            answer: Err(LoadError::Fault),
-        },
-        Loaded {
-            name: "A",
-            most: 5,
-            chunk: 2,
-            bad: 2,
-            answer: Err(LoadError::Fault),
-        },
-        Loaded {
-            name: "A",
-            most: 5,
-            chunk: 2,
-            bad: 5,
-            answer: Err(LoadError::Fault),
-        },
-        Loaded {
-            name: "A",
-            most: 5,
-            chunk: 2,
-            bad: 6,
-            answer: Ok(b"hello"),
-        },
-        Loaded {
-            name: "-",
-            most: 100,
-            chunk: 1,
-            bad: 0,
-            answer: Ok(b"input"),
-        },
-        Loaded {
-            name: "empty",
-            most: 0,
-            chunk: 1,
-            bad: 0,
-            answer: Ok(b""),
-        },
-        Loaded {
-            name: "B",
-            most: 5,
-            chunk: 2,
-            bad: 0,
-            answer: Err(LoadError::Fault),
-        },
-    ];
-    for row in rows {
+    for row in LOADED {
         assert!(rt; 0 < row.chunk && row.most <= 100 && row.bad < 100);
         let texts = held(rt.alloc(), &pairs)?;
         let mut shelf = MemShelf::new(texts, only(rt.alloc(), row.bad)?, row.chunk);

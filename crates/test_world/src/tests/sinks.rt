@@ -18,53 +18,54 @@ struct Put<'a> {
     taken: &'a [u8],
 }
 
+const PUT: [Put<'static>; 6] = [
+    Put {
+        room: 10,
+        bad: 0,
+        chunk: 3,
+        answer: Ok(()),
+        taken: b"hello",
+    },
+    Put {
+        room: 5,
+        bad: 0,
+        chunk: 100,
+        answer: Ok(()),
+        taken: b"hello",
+    },
+    Put {
+        room: 5,
+        bad: 3,
+        chunk: 2,
+        answer: Err(Fault),
+        taken: b"hell",
+    },
+    Put {
+        room: 4,
+        bad: 0,
+        chunk: 3,
+        answer: Err(Fault),
+        taken: b"hell",
+    },
+    Put {
+        room: 10,
+        bad: 1,
+        chunk: 1,
+        answer: Err(Fault),
+        taken: b"",
+    },
+    Put {
+        room: 0,
+        bad: 0,
+        chunk: 1,
+        answer: Err(Fault),
+        taken: b"",
+    },
+];
+
 #[test]
 fn puts_all_or_a_prefix(rt: HostRuntime) -> Result<(), Fail> {
-    let rows: [Put; 6] = [
-        Put {
-            room: 10,
-            bad: 0,
-            chunk: 3,
-            answer: Ok(()),
-            taken: b"hello",
-        },
-        Put {
-            room: 5,
-            bad: 0,
-            chunk: 100,
-            answer: Ok(()),
-            taken: b"hello",
-        },
-        Put {
-            room: 5,
-            bad: 3,
-            chunk: 2,
-            answer: Err(Fault),
-            taken: b"hell",
-        },
-        Put {
-            room: 4,
-            bad: 0,
-            chunk: 3,
-            answer: Err(Fault),
-            taken: b"hell",
-        },
-        Put {
-            room: 10,
-            bad: 1,
-            chunk: 1,
-            answer: Err(Fault),
-            taken: b"",
-        },
-        Put {
-            room: 0,
-            bad: 0,
-            chunk: 1,
-            answer: Err(Fault),
-            taken: b"",
-        },
-    ];
-    for row in rows {
+    for row in PUT {
         assert!(rt; 0 < row.chunk && row.bad < 100);
         let bad = only(rt.alloc(), row.bad)?;
         let mut sink = MemSink::new(rt.alloc(), row.room, bad, row.chunk)?;
@@ -118,51 +119,52 @@ struct Written<'a> {
     bytes: &'a [u8],
 }
 
+const WRITTEN: [Written<'static>; 5] = [
+    Written {
+        held: 4,
+        room: 8,
+        piece: b"cd",
+        put: Ok(2),
+        flush: Ok(()),
+        bytes: b"abcd",
+    },
+    Written {
+        held: 4,
+        room: 3,
+        piece: b"cd",
+        put: Ok(2),
+        flush: Err(Fault),
+        bytes: b"abc",
+    },
+    Written {
+        held: 2,
+        room: 8,
+        piece: b"cd",
+        put: Ok(2),
+        flush: Ok(()),
+        bytes: b"abcd",
+    },
+    Written {
+        held: 2,
+        room: 8,
+        piece: b"cde",
+        put: Ok(1),
+        flush: Ok(()),
+        bytes: b"abc",
+    },
+    Written {
+        held: 2,
+        room: 1,
+        piece: b"cd",
+        put: Err(Fault),
+        flush: Err(Fault),
+        bytes: b"a",
+    },
+];
+
 #[test]
 fn writes_what_is_held_and_then_the_piece(rt: HostRuntime) -> Result<(), Fail> {
-    let rows: [Written; 5] = [
-        Written {
-            held: 4,
-            room: 8,
-            piece: b"cd",
-            put: Ok(2),
-            flush: Ok(()),
-            bytes: b"abcd",
-        },
-        Written {
-            held: 4,
-            room: 3,
-            piece: b"cd",
-            put: Ok(2),
-            flush: Err(Fault),
-            bytes: b"abc",
-        },
-        Written {
-            held: 2,
-            room: 8,
-            piece: b"cd",
-            put: Ok(2),
-            flush: Ok(()),
-            bytes: b"abcd",
-        },
-        Written {
-            held: 2,
-            room: 8,
-            piece: b"cde",
-            put: Ok(1),
-            flush: Ok(()),
-            bytes: b"abc",
-        },
-        Written {
-            held: 2,
-            room: 1,
-            piece: b"cd",
-            put: Err(Fault),
-            flush: Err(Fault),
-            bytes: b"a",
-        },
-    ];
-    for row in rows {
+    for row in WRITTEN {
         assert!(rt; row.held <= 8 && row.piece.len() > 0);
         let empty = OneByte {
             bytes: [0; 8],
