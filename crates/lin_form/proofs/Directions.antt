@@ -1,5 +1,6 @@
 -- What a direction says of the inequalities with its coefficients.
-use Rattle.std.proofs.Common.{◌≡◌, suc, zero, ◌≤◌, ◌⊎◌, inl, inr, List, [], ◌∷◌, map, ℤ, pos, negsuc, ◌-ℤ◌, ◌<ℤ◌, neg_ℤ, Bool, true, false, not, arith, ap, sym, subst, ◌∙◌, refl}
+use Rattle.std.proofs.Common.{◌≡◌, suc, zero, ◌≤◌, ◌⊎◌, inl, inr, List, [], ◌∷◌, map, ℤ, pos, negsuc, ◌-ℤ◌, ◌<ℤ◌, neg_ℤ, Bool, true, false, not}
+use Rattle.std.proofs.Common.{arith, ap, sym, subst, ◌∙◌, refl}
 use Rattle.std.specs.Prelude.{unsigned_abs}
 use Rattle.std.specs.Int.{int_div_euclid}
 use Rattle.std.specs.List.{AllByRecursion}
@@ -19,19 +20,27 @@ IsKnown-direction whole d leads h = IsKnown-from whole whole (unsigned_abs d) re
 
 -- the constant on a direction is as small as its inequality's
 pub constant_on-bound : (leads : Bool) (d k : ℤ) → pos 0 <ℤ d → unsigned_abs k ≤ 1000000000000 → unsigned_abs (constant_on leads d k) ≤ 1000000000001
-constant_on-bound true d k p h = let b = floor_bound k (unsigned_abs d) (omega (arith, ints)) in let e = size_positive d p in let c : unsigned_abs (int_div_euclid k d) ≤ unsigned_abs k = rw e at b in omega arith
-constant_on-bound false d k p h = let b = floor_bound k (unsigned_abs d) (omega (arith, ints)) in let e = size_positive d p in let c : unsigned_abs (int_div_euclid k d) ≤ unsigned_abs k = rw e at b in omega (arith, ints)
+constant_on-bound true d k p h = let b = floor_bound k (unsigned_abs d) (omega (arith, ints)) in let e =
+    size_positive d p in let c : unsigned_abs (int_div_euclid k d) ≤ unsigned_abs k = rw e at b in omega arith
+constant_on-bound false d k p h = let b = floor_bound k (unsigned_abs d) (omega (arith, ints)) in let e =
+    size_positive d p in let c : unsigned_abs (int_div_euclid k d) ≤ unsigned_abs k = rw e at b in omega (arith, ints)
 
 -- a direction gives the normal form of each inequality with its coefficients
-pub normal_on : (leads : Bool) (d k : ℤ) (normal : List ℤ) → IsDirection (whole_of leads d normal) d leads → unsigned_abs k ≤ 1000000000000 → IsNormal normal (constant_on leads d k) × IsNormalForm (record { coefficients = whole_of leads d normal; constant = k }) (record { coefficients = normal; constant = constant_on leads d k })
+pub normal_on : (leads : Bool) (d k : ℤ) (normal : List ℤ) → IsDirection (whole_of leads d normal) d leads
+    → unsigned_abs k ≤ 1000000000000 → IsNormal normal (constant_on leads d k)
+    × IsNormalForm (record { coefficients = whole_of leads d normal; constant = k })
+    (record { coefficients = normal; constant = constant_on leads d k })
 normal_on true d k normal h small =
     let known = IsKnown-direction (whole_of true d normal) d true h in
     let e = size_positive d h.positive in
-    normal_above (whole_of true d normal) normal k (constant_on true d k) (unsigned_abs d) known h.within small (sym h.side) (ap (λ g. scaled g normal) (sym e)) (ap (λ g. int_div_euclid k g) (sym e))
+    normal_above (whole_of true d normal) normal k (constant_on true d k) (unsigned_abs d) known h.within small
+    (sym h.side) (ap (λ g. scaled g normal) (sym e)) (ap (λ g. int_div_euclid k g) (sym e))
 normal_on false d k normal h small =
     let known = IsKnown-direction (whole_of false d normal) d false h in
     let e = size_positive d h.positive in
-    normal_below (whole_of false d normal) normal k (constant_on false d k) (unsigned_abs d) known h.within h.some small (sym h.side) (ap (λ g. scaled (neg_ℤ g) normal) (sym e)) (ap (λ g. neg_ℤ (int_div_euclid k g) -ℤ pos 1) (sym e))
+    normal_below (whole_of false d normal) normal k (constant_on false d k) (unsigned_abs d) known h.within h.some
+    small (sym h.side) (ap (λ g. scaled (neg_ℤ g) normal) (sym e))
+    (ap (λ g. neg_ℤ (int_div_euclid k g) -ℤ pos 1) (sym e))
 
 neg_twice_factor : (leads : Bool) (d : ℤ) → factor (not leads) d ≡ neg_ℤ (factor leads d)
 neg_twice_factor true d = refl
@@ -64,16 +73,24 @@ turned whole d leads h = record {
 }
 
 -- a direction with the other sign is one of the coefficients with every sign turned
-pub IsDirection-turned : (leads : Bool) (d : ℤ) (normal : List ℤ) → IsDirection (whole_of leads d normal) d leads → IsDirection (whole_of (not leads) d normal) d (not leads)
-IsDirection-turned leads d normal h = subst (λ whole. IsDirection whole d (not leads)) (sym (whole_turned leads d normal)) (turned (whole_of leads d normal) d leads h)
+pub IsDirection-turned : (leads : Bool) (d : ℤ) (normal : List ℤ) → IsDirection (whole_of leads d normal) d leads
+    → IsDirection (whole_of (not leads) d normal) d (not leads)
+IsDirection-turned leads d normal h =
+    subst (λ whole. IsDirection whole d (not leads)) (sym (whole_turned leads d normal))
+    (turned (whole_of leads d normal) d leads h)
 
 pub abs_factor : (leads : Bool) (d : ℤ) → unsigned_abs (factor leads d) ≡ unsigned_abs d
 abs_factor true d = refl
 abs_factor false d = omega (arith, ints)
 
-pub divides_factor : (leads : Bool) (d f : ℤ) (numbers : List ℤ) → f ≡ factor leads d → IsGreatestDivisor numbers (unsigned_abs d) → DividesAll (unsigned_abs f) numbers
+pub divides_factor : (leads : Bool) (d f : ℤ) (numbers : List ℤ) → f ≡ factor leads d
+    → IsGreatestDivisor numbers (unsigned_abs d) → DividesAll (unsigned_abs f) numbers
 divides_factor leads d f numbers e h = subst (λ n. DividesAll n numbers) (sym (ap unsigned_abs e ∙ abs_factor leads d)) h.divides
 
 -- a literal on a direction, whose constant is stored
-pub literal_made : (leads : Bool) (d k read : ℤ) (normal part : List ℤ) → IsDirection (whole_of leads d normal) d leads → unsigned_abs k ≤ 1000000000000 → part ≡ normal → read ≡ constant_on leads d k → IsNormal part read × IsNormalForm (record { coefficients = whole_of leads d normal; constant = k }) (record { coefficients = part; constant = read })
+pub literal_made : (leads : Bool) (d k read : ℤ) (normal part : List ℤ)
+    → IsDirection (whole_of leads d normal) d leads → unsigned_abs k ≤ 1000000000000 → part ≡ normal
+    → read ≡ constant_on leads d k
+    → IsNormal part read × IsNormalForm (record { coefficients = whole_of leads d normal; constant = k })
+    (record { coefficients = part; constant = read })
 literal_made leads d k read normal part h small e f = rw (e, f) (normal_on leads d k normal h small)

@@ -1,5 +1,6 @@
 -- The normal form is computed, and there is one.
-use Rattle.std.proofs.Common.{◌≡◌, ℕ, zero, suc, ◌<◌, ◌≤◌, ◌%◌, ◌↔◌, List, [], ◌∷◌, length, get_or, drop, map, ℤ, pos, ◌+ℤ◌, ◌*ℤ◌, ◌≤ℤ◌, ◌<ℤ◌, arith, ap, sym, subst, ◌∙◌, refl}
+use Rattle.std.proofs.Common.{◌≡◌, ℕ, zero, suc, ◌<◌, ◌≤◌, ◌%◌, ◌↔◌, List, [], ◌∷◌, length, get_or, drop, map, ℤ, pos, ◌+ℤ◌, ◌*ℤ◌, ◌≤ℤ◌, ◌<ℤ◌}
+use Rattle.std.proofs.Common.{arith, ap, sym, subst, ◌∙◌, refl}
 use Rattle.std.specs.Prelude.{unsigned_abs, int_div}
 use Rattle.std.specs.Int.{◌∣◌, IsGcd}
 use Rattle.std.specs.List.{AllByRecursion}
@@ -28,9 +29,14 @@ divides_by_recursion (a ∷ numbers) d =
 -- the divisor that is computed is the greatest
 pub IsGreatestDivisor-computed : (numbers : List ℤ) → (AreZero numbers → ⊥) → IsGreatestDivisor numbers (divisor_of numbers)
 IsGreatestDivisor-computed numbers some =
-    IsGreatestDivisor-from numbers (divisor_of numbers) (λ d. (λ h. All-from_recursion _ numbers ((divides_by_recursion numbers d).0 h), λ h. (divides_by_recursion numbers d).1 (recursion_from_All _ numbers h))) some
+    IsGreatestDivisor-from numbers (divisor_of numbers)
+    (λ d. (
+      λ h. All-from_recursion _ numbers ((divides_by_recursion numbers d).0 h),
+      λ h. (divides_by_recursion numbers d).1 (recursion_from_All _ numbers h),
+    )) some
 
-quotients_by_recursion : (numbers : List ℤ) (d : ℤ) → AllByRecursion (λ a. unsigned_abs d ∣ unsigned_abs a) numbers → numbers ≡ scaled d (map (λ a. int_div a d) numbers)
+quotients_by_recursion : (numbers : List ℤ) (d : ℤ) → AllByRecursion (λ a. unsigned_abs d ∣ unsigned_abs a) numbers
+    → numbers ≡ scaled d (map (λ a. int_div a d) numbers)
 quotients_by_recursion [] d h = refl
 quotients_by_recursion (a ∷ numbers) d h = λ i. exact_quotient a d h.0 i ∷ quotients_by_recursion numbers d h.1 i
 
@@ -73,9 +79,12 @@ between a b h k = omega (arith, ints)
 
 one_part : (whole x y : Inequality) → IsDivided whole x → IsDivided whole y → x ≡ y
 one_part whole x y h k =
-    let d : h.divisor ≡ k.divisor = let l = k.common.greatest h.divisor h.common.divides in let m = h.common.greatest k.divisor k.common.divides in omega arith in
+    let d : h.divisor ≡ k.divisor = let l = k.common.greatest h.divisor h.common.divides in let m =
+    h.common.greatest k.divisor k.common.divides in omega arith in
     let p = positive_divisor whole.coefficients h.divisor h.common in
-    let e : x.coefficients ≡ y.coefficients = cancel_all h.divisor x.coefficients y.coefficients p (sym h.quotients ∙ k.quotients ∙ ap (λ g. scaled (pos g) y.coefficients) (sym d)) in
+    let e : x.coefficients ≡ y.coefficients =
+    cancel_all h.divisor x.coefficients y.coefficients p
+    (sym h.quotients ∙ k.quotients ∙ ap (λ g. scaled (pos g) y.coefficients) (sym d)) in
     let low : (pos h.divisor *ℤ y.constant) ≤ℤ whole.constant = subst (λ g. (pos g *ℤ y.constant) ≤ℤ whole.constant) (sym d) k.floor.below in
     let other : (pos k.divisor *ℤ x.constant) ≤ℤ whole.constant = subst (λ g. (pos g *ℤ x.constant) ≤ℤ whole.constant) d h.floor.below in
     let f : x.constant ≡ y.constant = between x.constant y.constant (k.floor.greatest x.constant other) (h.floor.greatest y.constant low) in

@@ -16,10 +16,12 @@ use Rattle.line_forms.proofs.Small.{small_test, plain_lexemes}
 
 -- the comparison of a cut is the one that was read
 pub cut_same : (ts : List Lexeme) (end : ℕ) (t x : TestForm) → IsLongest (IsTest ts) test_size 1 end t → IsCut ts x → x ≡ t
-cut_same ts end t x long is = settled (IsTest ts) test_size in_sum ts 1 end t x long is.1 (at_end in_sum ts (1 + test_size x) is.2) (one_test ts 1 x t is.1 long.spelled)
+cut_same ts end t x long is = settled (IsTest ts) test_size in_sum ts 1 end t x long is.1 (at_end in_sum ts (1 + test_size x) is.2)
+    (one_test ts 1 x t is.1 long.spelled)
 
 one_cut : (ts : List Lexeme) (a b : TestForm) → IsCut ts a → IsCut ts b → a ≡ b
-one_cut ts a b p q = both_end (a ≡ b) in_sum ts 1 (test_size a) (test_size b) (at_end in_sum ts (1 + test_size a) p.2) (at_end in_sum ts (1 + test_size b) q.2) (one_test ts 1 a b p.1 q.1)
+one_cut ts a b p q = both_end (a ≡ b) in_sum ts 1 (test_size a) (test_size b) (at_end in_sum ts (1 + test_size a) p.2)
+    (at_end in_sum ts (1 + test_size b) q.2) (one_test ts 1 a b p.1 q.1)
 
 pub one_cuts : (ts : List Lexeme) (a b : CutsForm) → IsCutsForm ts a → IsCutsForm ts b → a ≡ b
 one_cuts ts (cuts.Version n) (cuts.Version m) p q = let h = p.1 in let k = q.1 in cc

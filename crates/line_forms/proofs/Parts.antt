@@ -25,20 +25,23 @@ pub moved : (class : Lexeme → Bool) (ts : List Lexeme) (i j : ℕ) → i ≡ j
 moved class ts i j e h = subst (Stops class ts) e h
 
 -- a guard behind `when`
-when_one : (ts : List Lexeme) (i end : ℕ) (g : Guard) (w : Option Guard) → Has ts i (Reserved keyword.When) → IsLongest (IsGuard ts) guard_size (i + 1) end g → IsWhen ts i w → Stops in_guard ts (i + when_size w) → w ≡ Some g
+when_one : (ts : List Lexeme) (i end : ℕ) (g : Guard) (w : Option Guard) → Has ts i (Reserved keyword.When)
+    → IsLongest (IsGuard ts) guard_size (i + 1) end g → IsWhen ts i w → Stops in_guard ts (i + when_size w) → w ≡ Some g
 when_one ts i end g None has long is stops = absurd (is has)
 when_one ts i end g (Some h) has long is stops =
     let e = guard_settled ts (i + 1) end g h long is.1 (moved in_guard ts (i + (1 + guard_size h)) (i + 1 + guard_size h) (omega arith) stops) in
     λ j. Some (e j)
 
-pub when_read : (ts : List Lexeme) (i end : ℕ) (g : Guard) → Has ts i (Reserved keyword.When) → IsLongest (IsGuard ts) guard_size (i + 1) end g → IsOnly (IsWhen ts) when_size in_guard ts i end (Some g)
+pub when_read : (ts : List Lexeme) (i end : ℕ) (g : Guard) → Has ts i (Reserved keyword.When) → IsLongest (IsGuard ts) guard_size (i + 1) end g
+    → IsOnly (IsWhen ts) when_size in_guard ts i end (Some g)
 when_read ts i end g has long = record {
   spelled = (has, long.spelled);
   ends = let e = long.ends in omega arith;
   only = λ w is stops. when_one ts i end g w has long is stops;
 }
 
-behind_target : (ts : List Lexeme) (i : ℕ) (target : Option (List ℕ)) (history : Bool) → IsNamed ts i keyword.Go target → IsHistory ts (i + named_size target) target history → length ts ≡ i + named_size target + marked_size history → Stops in_guard ts i
+behind_target : (ts : List Lexeme) (i : ℕ) (target : Option (List ℕ)) (history : Bool) → IsNamed ts i keyword.Go target
+    → IsHistory ts (i + named_size target) target history → length ts ≡ i + named_size target + marked_size history → Stops in_guard ts i
 behind_target ts i None true named is whole = absurd (cc)
 behind_target ts i None false named is whole = at_end in_guard ts i (omega arith)
 behind_target ts i (Some name) history named is whole = stopped in_guard ts i (Reserved keyword.Go) named.0 refl
@@ -46,7 +49,8 @@ behind_target ts i (Some name) history named is whole = stopped in_guard ts i (R
 pub behind_effect : (ts : List Lexeme) (f : OnForm) (h : IsOnForm ts f) → Stops in_guard ts (2 + when_size h.when + each_size f.effect)
 behind_effect ts f h = behind_target ts (2 + when_size h.when + each_size f.effect) f.target f.history h.target h.history h.whole
 
-behind_each : (ts : List Lexeme) (i : ℕ) (effect : List ActionForm) → IsEach ts i (Reserved keyword.Do) effect → Stops in_guard ts (i + each_size effect) → Stops in_guard ts i
+behind_each : (ts : List Lexeme) (i : ℕ) (effect : List ActionForm) → IsEach ts i (Reserved keyword.Do) effect
+    → Stops in_guard ts (i + each_size effect) → Stops in_guard ts i
 behind_each ts i [] each stops = moved in_guard ts (i + 0) i (omega arith) stops
 behind_each ts i (a ∷ more) each stops = stopped in_guard ts i (Reserved keyword.Do) each.0 refl
 
@@ -58,13 +62,16 @@ when_failed ts Form none = λ f h. none h.when h.guarded (behind_when ts f h)
 when_failed ts Memory none = tt
 
 -- where the guard that was read ends, the actions of every derivation begin
-when_place : (ts : List Lexeme) (at : ℕ) (w : Option Guard) (f : OnForm) (h : IsOnForm ts f) → IsOnly (IsWhen ts) when_size in_guard ts 2 at w → 2 + when_size h.when ≡ at
+when_place : (ts : List Lexeme) (at : ℕ) (w : Option Guard) (f : OnForm) (h : IsOnForm ts f) → IsOnly (IsWhen ts) when_size in_guard ts 2 at w
+    → 2 + when_size h.when ≡ at
 when_place ts at w f h read = ap (λ x. 2 + when_size x) (read.only h.when h.guarded (behind_when ts f h)) ∙ sym read.ends
 
-pub effect_failed : (ts : List Lexeme) (at : ℕ) (w : Option Guard) (e : FormError) → IsOnly (IsWhen ts) when_size in_guard ts 2 at w → GivesOnly (λ i. IsEach ts i (Reserved keyword.Do)) each_size in_sum ts at (Err e) → Derives (IsOnForm ts) (Err e)
+pub effect_failed : (ts : List Lexeme) (at : ℕ) (w : Option Guard) (e : FormError) → IsOnly (IsWhen ts) when_size in_guard ts 2 at w
+    → GivesOnly (λ i. IsEach ts i (Reserved keyword.Do)) each_size in_sum ts at (Err e) → Derives (IsOnForm ts) (Err e)
 effect_failed ts at w Form read none = λ f h.
     let p = when_place ts at w f h read in
-    none f.effect (subst (λ k. IsEach ts k (Reserved keyword.Do) f.effect) p h.effect) (subst (λ k. Stops in_sum ts (k + each_size f.effect)) p (narrower ts (2 + when_size h.when + each_size f.effect) (behind_effect ts f h)))
+    none f.effect (subst (λ k. IsEach ts k (Reserved keyword.Do) f.effect) p h.effect)
+    (subst (λ k. Stops in_sum ts (k + each_size f.effect)) p (narrower ts (2 + when_size h.when + each_size f.effect) (behind_effect ts f h)))
 effect_failed ts at w Memory read none = tt
 
 -- what is read before `go`: the guard, and the actions, which end at a place
@@ -73,18 +80,22 @@ pub record IsReadToGo (ts : List Lexeme) (w : Option Guard) (effect : List Actio
   pub guarded : IsOnly (IsWhen ts) when_size in_guard ts 2 at w
   pub each : IsOnly (λ i. IsEach ts i (Reserved keyword.Do)) each_size in_sum ts at end effect
 
-same_effect : (ts : List Lexeme) (w : Option Guard) (effect : List ActionForm) (end : ℕ) (f : OnForm) (h : IsOnForm ts f) → IsReadToGo ts w effect end → f.effect ≡ effect
+same_effect : (ts : List Lexeme) (w : Option Guard) (effect : List ActionForm) (end : ℕ) (f : OnForm) (h : IsOnForm ts f)
+    → IsReadToGo ts w effect end → f.effect ≡ effect
 same_effect ts w effect end f h read =
     let p = when_place ts read.at w f h read.guarded in
-    read.each.only f.effect (subst (λ k. IsEach ts k (Reserved keyword.Do) f.effect) p h.effect) (subst (λ k. Stops in_sum ts (k + each_size f.effect)) p (narrower ts (2 + when_size h.when + each_size f.effect) (behind_effect ts f h)))
+    read.each.only f.effect (subst (λ k. IsEach ts k (Reserved keyword.Do) f.effect) p h.effect)
+    (subst (λ k. Stops in_sum ts (k + each_size f.effect)) p (narrower ts (2 + when_size h.when + each_size f.effect) (behind_effect ts f h)))
 
-same_end : (ts : List Lexeme) (w : Option Guard) (effect : List ActionForm) (end : ℕ) (f : OnForm) (h : IsOnForm ts f) → IsReadToGo ts w effect end → 2 + when_size h.when + each_size f.effect ≡ end
+same_end : (ts : List Lexeme) (w : Option Guard) (effect : List ActionForm) (end : ℕ) (f : OnForm) (h : IsOnForm ts f)
+    → IsReadToGo ts w effect end → 2 + when_size h.when + each_size f.effect ≡ end
 same_end ts w effect end f h read =
     let p = when_place ts read.at w f h read.guarded in
     let g = same_effect ts w effect end f h read in
     (λ j. p j + each_size (g j)) ∙ sym read.each.ends
 
-pub go_failed : (ts : List Lexeme) (w : Option Guard) (effect : List ActionForm) (end : ℕ) (e : FormError) → IsReadToGo ts w effect end → Derives (IsNamed ts end keyword.Go) (Err e) → Derives (IsOnForm ts) (Err e)
+pub go_failed : (ts : List Lexeme) (w : Option Guard) (effect : List ActionForm) (end : ℕ) (e : FormError) → IsReadToGo ts w effect end
+    → Derives (IsNamed ts end keyword.Go) (Err e) → Derives (IsOnForm ts) (Err e)
 go_failed ts w effect end Form read none = λ f h. none f.target (subst (λ i. IsNamed ts i keyword.Go f.target) (same_end ts w effect end f h read) h.target)
 go_failed ts w effect end Memory read none = tt
 
@@ -104,7 +115,9 @@ pub one_history : (ts : List Lexeme) (i : ℕ) (target : Option (List ℕ)) (a b
 one_history ts i None a b p q = p ∙ sym q
 one_history ts i (Some name) a b p q = one_marked ts i keyword.History a b p q
 
-pub length_failed : (ts : List Lexeme) (w : Option Guard) (effect : List ActionForm) (end : ℕ) (target : Option (List ℕ)) (history : Bool) → IsReadToGo ts w effect end → IsNamed ts end keyword.Go target → IsHistory ts (end + named_size target) target history → (length ts ≡ end + named_size target + marked_size history → ⊥) → (f : OnForm) → IsOnForm ts f → ⊥
+pub length_failed : (ts : List Lexeme) (w : Option Guard) (effect : List ActionForm) (end : ℕ) (target : Option (List ℕ)) (history : Bool)
+    → IsReadToGo ts w effect end → IsNamed ts end keyword.Go target → IsHistory ts (end + named_size target) target history
+    → (length ts ≡ end + named_size target + marked_size history → ⊥) → (f : OnForm) → IsOnForm ts f → ⊥
 length_failed ts w effect end target history read go is other f h =
     let e = same_end ts w effect end f h read in
     let g = one_named ts end keyword.Go f.target target (subst (λ i. IsNamed ts i keyword.Go f.target) e h.target) go in
@@ -115,4 +128,5 @@ length_failed ts w effect end target history read go is other f h =
 
 -- the comparison of an assumption is the one that was read
 pub assume_same : (ts : List Lexeme) (end : ℕ) (t x : TestForm) → IsLongest (IsTest ts) test_size 1 end t → IsAssumeForm ts x → x ≡ t
-assume_same ts end t x long is = settled (IsTest ts) test_size in_sum ts 1 end t x long is.1 (at_end in_sum ts (1 + test_size x) is.3) (one_test ts 1 x t is.1 long.spelled)
+assume_same ts end t x long is = settled (IsTest ts) test_size in_sum ts 1 end t x long is.1 (at_end in_sum ts (1 + test_size x) is.3)
+    (one_test ts 1 x t is.1 long.spelled)

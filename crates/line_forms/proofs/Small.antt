@@ -1,5 +1,6 @@
 -- What the lexemes of a line keep, and what a statement keeps that derives from them: small numbers, names that are free, few terms and few `not`s.
-use Rattle.std.proofs.Common.{◌≡◌, ℕ, zero, suc, ◌+◌, ◌*◌, ◌≤◌, Bool, true, false, List, [], ◌∷◌, length, map, Option, Some, None, refl, sym, ◌∙◌, ap, subst, arith}
+use Rattle.std.proofs.Common.{◌≡◌, ℕ, zero, suc, ◌+◌, ◌*◌, ◌≤◌, Bool, true, false, List, [], ◌∷◌, length, map, Option, Some, None, refl, sym, ◌∙◌}
+use Rattle.std.proofs.Common.{ap, subst, arith}
 use Rattle.std.specs.Prelude.{if◌then◌else◌, ◌==◌, nat_le, slice_get, unsigned_abs, option_map}
 use Rattle.std.specs.List.{All}
 use Rattle.std.specs.Option.{ForSome}
@@ -29,9 +30,12 @@ use Rattle.line_forms.specs.declared.statement.WordForm.{WordForm}
 use Rattle.line_forms.specs.Trees as tree
 use Rattle.line_forms.specs.Trees.{Tree}
 use Rattle.line_forms.specs.Lexemes.{keyword_of, name_meaning, symbol_of, meaning_of, lexeme_of, IsLexed}
-use Rattle.line_forms.specs.Grammar.{Has, IsTerm, term_size, AreTerms, terms_size, IsFirst, first_size, IsSum, sum_size, IsTest, IsAction, action_size, IsEach, Guard, Conj, Unit', conj, or, unit, and, not, paren, test, IsGuard, IsConj, IsUnit, conj_size, unit_size, guard_tree, or_onto, conj_tree, and_onto, unit_tree}
+use Rattle.line_forms.specs.Grammar.{Has, IsTerm, term_size, AreTerms, terms_size, IsFirst, first_size, IsSum, sum_size, IsTest, IsAction}
+use Rattle.line_forms.specs.Grammar.{action_size, IsEach, Guard, Conj, Unit', conj, or, unit, and, not, paren, test, IsGuard, IsConj, IsUnit}
+use Rattle.line_forms.specs.Grammar.{conj_size, unit_size, guard_tree, or_onto, conj_tree, and_onto, unit_tree}
 use Rattle.line_forms.specs.Forms.{IsSigned, signed_size, IsWhen, IsStatement, IsDerived, IsSighted, AreNumbers, HasNumbers, IsWordForm}
-use Rattle.line_forms.specs.Limits.{IsFree, IsSmallNumber, IsSmallTerm, AreSmallTerms, IsSmallTest, IsSmallAction, AreSmallTests, IsSmallGuard, IsSmallStatement, IsSmallSight, AreSmallNumbers}
+use Rattle.line_forms.specs.Limits.{IsFree, IsSmallNumber, IsSmallTerm, AreSmallTerms, IsSmallTest, IsSmallAction, AreSmallTests, IsSmallGuard}
+use Rattle.line_forms.specs.Limits.{IsSmallStatement, IsSmallSight, AreSmallNumbers}
 use Rattle.line_forms.proofs.Nots.{few_nots}
 
 abbrev pub IsPlain : Lexeme → Type 0
@@ -85,7 +89,8 @@ small_term ts i (term.Multiplied a n) plain h = plain (i + 2) (Number n) h.2
 
 small_terms : (ts : List Lexeme) (i : ℕ) (xs : List SignedTerm) → ArePlain ts → AreTerms ts i xs → AreSmallTerms xs
 small_terms ts i [] plain h = All-nil (λ (t : SignedTerm). IsSmallTerm t.term)
-small_terms ts i (x ∷ xs) plain h = All-cons (λ (t : SignedTerm). IsSmallTerm t.term) x xs (small_term ts (i + 1) x.term plain h.1) (small_terms ts (i + 1 + term_size x.term) xs plain h.2)
+small_terms ts i (x ∷ xs) plain h = All-cons (λ (t : SignedTerm). IsSmallTerm t.term) x xs (small_term ts (i + 1) x.term plain h.1)
+    (small_terms ts (i + 1 + term_size x.term) xs plain h.2)
 
 small_first : (ts : List Lexeme) (i : ℕ) (b : Bool) (t : Term) → ArePlain ts → IsFirst ts i b t → IsSmallTerm t
 small_first ts i true t plain h = small_term ts (i + 1) t plain h.1
@@ -93,7 +98,8 @@ small_first ts i false t plain h = small_term ts i t plain h
 
 small_sum : (ts : List Lexeme) (i : ℕ) (xs : List SignedTerm) → ArePlain ts → IsSum ts i xs → AreSmallTerms xs
 small_sum ts i [] plain h = absurd h
-small_sum ts i (x ∷ xs) plain h = All-cons (λ (t : SignedTerm). IsSmallTerm t.term) x xs (small_first ts i x.negated x.term plain h.0) (small_terms ts (i + first_size x.negated x.term) xs plain h.1)
+small_sum ts i (x ∷ xs) plain h = All-cons (λ (t : SignedTerm). IsSmallTerm t.term) x xs (small_first ts i x.negated x.term plain h.0)
+    (small_terms ts (i + first_size x.negated x.term) xs plain h.1)
 
 -- what derives stands within the line
 
@@ -159,54 +165,75 @@ small_action ts i x plain short h = record {
   terms = small_sum ts (i + 2) x.sum plain h.2;
 }
 
-small_each : (ts : List Lexeme) (i : ℕ) (lead : Lexeme) (effect : List ActionForm) → ArePlain ts → length ts ≤ 1024 → IsEach ts i lead effect → All IsSmallAction effect
+small_each : (ts : List Lexeme) (i : ℕ) (lead : Lexeme) (effect : List ActionForm) → ArePlain ts → length ts ≤ 1024 → IsEach ts i lead effect
+    → All IsSmallAction effect
 small_each ts i lead [] plain short h = All-nil IsSmallAction
-small_each ts i lead (x ∷ more) plain short h = All-cons IsSmallAction x more (small_action ts (i + 1) x plain short h.1) (small_each ts (i + 1 + action_size x) Comma more plain short h.2)
+small_each ts i lead (x ∷ more) plain short h = All-cons IsSmallAction x more (small_action ts (i + 1) x plain short h.1)
+    (small_each ts (i + 1 + action_size x) Comma more plain short h.2)
 
 mutual
   pub small_guard : (ts : List Lexeme) (i : ℕ) (g : Guard) → ArePlain ts → length ts ≤ 1024 → IsGuard ts i g → AreSmallTests (guard_tree g)
   small_guard ts i (conj c) plain short p = small_conj ts i c plain short p
   small_guard ts i (or c g) plain short p = small_or ts (i + conj_size c + 1) (conj_tree c) g plain short (small_conj ts i c plain short p.0) p.2
 
-  small_or : (ts : List Lexeme) (i : ℕ) (front : Tree) (g : Guard) → ArePlain ts → length ts ≤ 1024 → AreSmallTests front → IsGuard ts i g → AreSmallTests (or_onto front g)
+  small_or : (ts : List Lexeme) (i : ℕ) (front : Tree) (g : Guard) → ArePlain ts → length ts ≤ 1024 → AreSmallTests front → IsGuard ts i g
+      → AreSmallTests (or_onto front g)
   small_or ts i front (conj c) plain short small p = (small, small_conj ts i c plain short p)
-  small_or ts i front (or c g) plain short small p = small_or ts (i + conj_size c + 1) (tree.or front (conj_tree c)) g plain short (small, small_conj ts i c plain short p.0) p.2
+  small_or ts i front (or c g) plain short small p = small_or ts (i + conj_size c + 1) (tree.or front (conj_tree c)) g plain short
+      (small, small_conj ts i c plain short p.0) p.2
 
   small_conj : (ts : List Lexeme) (i : ℕ) (c : Conj) → ArePlain ts → length ts ≤ 1024 → IsConj ts i c → AreSmallTests (conj_tree c)
   small_conj ts i (unit u) plain short p = small_unit ts i u plain short p
   small_conj ts i (and u c) plain short p = small_and ts (i + unit_size u + 1) (unit_tree u) c plain short (small_unit ts i u plain short p.0) p.2
 
-  small_and : (ts : List Lexeme) (i : ℕ) (front : Tree) (c : Conj) → ArePlain ts → length ts ≤ 1024 → AreSmallTests front → IsConj ts i c → AreSmallTests (and_onto front c)
+  small_and : (ts : List Lexeme) (i : ℕ) (front : Tree) (c : Conj) → ArePlain ts → length ts ≤ 1024 → AreSmallTests front → IsConj ts i c
+      → AreSmallTests (and_onto front c)
   small_and ts i front (unit u) plain short small p = (small, small_unit ts i u plain short p)
-  small_and ts i front (and u c) plain short small p = small_and ts (i + unit_size u + 1) (tree.and front (unit_tree u)) c plain short (small, small_unit ts i u plain short p.0) p.2
+  small_and ts i front (and u c) plain short small p = small_and ts (i + unit_size u + 1) (tree.and front (unit_tree u)) c plain short
+      (small, small_unit ts i u plain short p.0) p.2
 
   small_unit : (ts : List Lexeme) (i : ℕ) (u : Unit') → ArePlain ts → length ts ≤ 1024 → IsUnit ts i u → AreSmallTests (unit_tree u)
   small_unit ts i (not u) plain short p = small_unit ts (i + 1) u plain short p.1
   small_unit ts i (paren g) plain short p = small_guard ts (i + 1) g plain short p.1
   small_unit ts i (test t) plain short p = small_test ts i t plain short p
 
-pub small_when : (line : List ℕ) (ts : List Lexeme) (w : Option Guard) (value : Option Tree) → IsLexed line ts → length ts ≤ 1024 → IsWhen ts 2 w → value ≡ option_map guard_tree w → ForSome value IsSmallGuard
+pub small_when : (line : List ℕ) (ts : List Lexeme) (w : Option Guard) (value : Option Tree) → IsLexed line ts → length ts ≤ 1024 → IsWhen ts 2 w
+    → value ≡ option_map guard_tree w → ForSome value IsSmallGuard
 small_when line ts None value lexed short p e = λ g h. absurd (let f : None ≡ Some g = sym e ∙ h in cc)
 small_when line ts (Some w) value lexed short p e = λ g h.
     let f : Some (guard_tree w) ≡ Some g = sym e ∙ h in
     let same : guard_tree w ≡ g = cc in
-    let small : IsSmallGuard (guard_tree w) = record { tests = small_guard ts 3 w (plain_lexemes line ts lexed) short p.1; nots = few_nots line ts 3 w lexed p.1 } in
+    let small : IsSmallGuard (guard_tree w) = record {
+      tests = small_guard ts 3 w (plain_lexemes line ts lexed) short p.1;
+      nots = few_nots line ts 3 w lexed p.1;
+    } in
     subst IsSmallGuard same small
 
 small_statement : (line : List ℕ) (ts : List Lexeme) (s : Statement) → IsLexed line ts → length ts ≤ 1024 → IsStatement ts s → IsSmallStatement s
 small_statement line ts (says.Chart n) lexed short h = tt
-small_statement line ts (says.Input f) lexed short h = let plain = plain_lexemes line ts lexed in (plain 1 (Named f.name) h.1, small_signed ts _ f.lo plain h.2, small_signed ts _ f.hi plain h.3)
+small_statement line ts (says.Input f) lexed short h = let plain = plain_lexemes line ts lexed in
+    (plain 1 (Named f.name) h.1, small_signed ts _ f.lo plain h.2, small_signed ts _ f.hi plain h.3)
 small_statement line ts (says.Assume t) lexed short h = small_test ts 1 t (plain_lexemes line ts lexed) short h.1
-small_statement line ts (says.Output f) lexed short h = let plain = plain_lexemes line ts lexed in (plain 1 (Named f.name) h.1, small_signed ts _ f.value plain h.2)
+small_statement line ts (says.Output f) lexed short h = let plain = plain_lexemes line ts lexed in
+    (plain 1 (Named f.name) h.1, small_signed ts _ f.value plain h.2)
 small_statement line ts (says.Memory f) lexed short h =
     let plain = plain_lexemes line ts lexed in
-    record { free = plain 1 (Named f.name) h.1; lo = small_signed ts _ f.lo plain h.2; hi = small_signed ts _ f.hi plain h.3; value = small_signed ts _ f.value plain h.4 }
+    record {
+      free = plain 1 (Named f.name) h.1;
+      lo = small_signed ts _ f.lo plain h.2;
+      hi = small_signed ts _ f.hi plain h.3;
+      value = small_signed ts _ f.value plain h.4;
+    }
 small_statement line ts (says.State f) lexed short h = plain_lexemes line ts lexed 1 (Named f.name) h.1
 small_statement line ts (says.Entry f) lexed short h = small_each ts 2 (Reserved keyword.Do) f.actions (plain_lexemes line ts lexed) short h.3
 small_statement line ts (says.Exit f) lexed short h = small_each ts 2 (Reserved keyword.Do) f.actions (plain_lexemes line ts lexed) short h.3
-small_statement line ts (says.On f) lexed short h = record { guard = small_when line ts h.when f.guard lexed short h.guarded h.guard; effect = small_each ts _ (Reserved keyword.Do) f.effect (plain_lexemes line ts lexed) short h.effect }
+small_statement line ts (says.On f) lexed short h = record {
+  guard = small_when line ts h.when f.guard lexed short h.guarded h.guard;
+  effect = small_each ts _ (Reserved keyword.Do) f.effect (plain_lexemes line ts lexed) short h.effect;
+}
 
-small_derived : (line : List ℕ) (ts : List Lexeme) (form : Option Statement) → IsLexed line ts → length ts ≤ 1024 → IsDerived ts form → ForSome form IsSmallStatement
+small_derived : (line : List ℕ) (ts : List Lexeme) (form : Option Statement) → IsLexed line ts → length ts ≤ 1024 → IsDerived ts form
+    → ForSome form IsSmallStatement
 small_derived line ts None lexed short h = λ s e. absurd (cc)
 small_derived line ts (Some f) lexed short h = λ s e. let same : f ≡ s = cc in subst IsSmallStatement same (small_statement line ts f lexed short h)
 

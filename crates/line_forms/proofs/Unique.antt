@@ -21,7 +21,9 @@ use Rattle.line_forms.specs.declared.statement.Statement.TheVariants as says
 use Rattle.line_forms.specs.declared.statement.Sighted.{Sighted}
 use Rattle.line_forms.specs.declared.statement.WordForm.{WordForm}
 use Rattle.line_forms.specs.Grammar.{Has, test_size, action_size, IsEach, each_size, Guard, guard_size, guard_tree}
-use Rattle.line_forms.specs.Forms.{reserved_at, IsSigned, signed_size, IsInputForm, IsAssumeForm, IsOutputForm, IsMemoryForm, IsNamed, named_size, IsMarked, IsStateForm, IsActionsForm, IsWhen, when_size, IsHistory, IsOnForm, IsStatement, IsDerived, IsSighted, AreNumbers, HasNumbers, IsWordForm}
+use Rattle.line_forms.specs.Forms.{reserved_at, IsSigned, signed_size, IsInputForm, IsAssumeForm, IsOutputForm, IsMemoryForm, IsNamed, named_size}
+use Rattle.line_forms.specs.Forms.{IsMarked, IsStateForm, IsActionsForm, IsWhen, when_size, IsHistory, IsOnForm, IsStatement, IsDerived}
+use Rattle.line_forms.specs.Forms.{IsSighted, AreNumbers, HasNumbers, IsWordForm}
 use Rattle.line_forms.specs.Longest.{in_sum, in_guard, Stops}
 use Rattle.line_forms.proofs.Compare.{Compared, same, first, second, one_test, one_action}
 use Rattle.line_forms.proofs.Guards.{one_guard}
@@ -30,25 +32,29 @@ use Rattle.line_forms.proofs.Parts.{one_named, one_marked, one_history, behind_w
 use Rattle.line_forms.proofs.Numerals.{one_signed}
 
 -- where nothing continues either of two derivations, they are the same
-pub both_end : (E : Type 0) (class : Lexeme → Bool) (ts : List Lexeme) (i m n : ℕ) → Stops class ts (i + m) → Stops class ts (i + n) → Compared E class ts i m n → E
+pub both_end : (E : Type 0) (class : Lexeme → Bool) (ts : List Lexeme) (i m n : ℕ) → Stops class ts (i + m) → Stops class ts (i + n)
+    → Compared E class ts i m n → E
 both_end E class ts i m n p q (same e) = e
 both_end E class ts i m n p q (first less h) = absurd (p h)
 both_end E class ts i m n p q (second less h) = absurd (q h)
 
-pub one_each : (ts : List Lexeme) (i : ℕ) (lead : Lexeme) (xs ys : List ActionForm) → IsEach ts i lead xs → IsEach ts i lead ys → Stops in_sum ts (i + each_size xs) → Stops in_sum ts (i + each_size ys) → xs ≡ ys
+pub one_each : (ts : List Lexeme) (i : ℕ) (lead : Lexeme) (xs ys : List ActionForm) → IsEach ts i lead xs → IsEach ts i lead ys
+    → Stops in_sum ts (i + each_size xs) → Stops in_sum ts (i + each_size ys) → xs ≡ ys
 one_each ts i lead [] [] p q s t = refl
 one_each ts i lead [] (y ∷ ys) p q s t = absurd (p q.0)
 one_each ts i lead (x ∷ xs) [] p q s t = absurd (q p.0)
 one_each ts i lead (x ∷ xs) (y ∷ ys) p q s t =
     let a = moved in_sum ts (i + (1 + action_size x + each_size xs)) (i + 1 + action_size x + each_size xs) (omega arith) s in
     let b = moved in_sum ts (i + (1 + action_size y + each_size ys)) (i + 1 + action_size y + each_size ys) (omega arith) t in
-    let e = both_end (x ≡ y) in_sum ts (i + 1) (action_size x) (action_size y) (action_stops ts (i + 1 + action_size x) xs p.2 a) (action_stops ts (i + 1 + action_size y) ys q.2 b) (one_action ts (i + 1) x y p.1 q.1) in
+    let e = both_end (x ≡ y) in_sum ts (i + 1) (action_size x) (action_size y) (action_stops ts (i + 1 + action_size x) xs p.2 a)
+    (action_stops ts (i + 1 + action_size y) ys q.2 b) (one_action ts (i + 1) x y p.1 q.1) in
     let P : ActionForm → Type 0 = λ z. IsEach ts (i + 1 + action_size z) Comma ys in
     let S : ActionForm → Type 0 = λ z. Stops in_sum ts (i + 1 + action_size z + each_size ys) in
     let h = one_each ts (i + 1 + action_size x) Comma xs ys p.2 (subst P (sym e) q.2) a (subst S (sym e) b) in
     λ j. e j ∷ h j
 
-pub one_when : (ts : List Lexeme) (i : ℕ) (a b : Option Guard) → IsWhen ts i a → IsWhen ts i b → Stops in_guard ts (i + when_size a) → Stops in_guard ts (i + when_size b) → a ≡ b
+pub one_when : (ts : List Lexeme) (i : ℕ) (a b : Option Guard) → IsWhen ts i a → IsWhen ts i b → Stops in_guard ts (i + when_size a)
+    → Stops in_guard ts (i + when_size b) → a ≡ b
 one_when ts i None None p q s t = refl
 one_when ts i None (Some h) p q s t = absurd (p q.0)
 one_when ts i (Some g) None p q s t = absurd (q p.0)
@@ -86,16 +92,19 @@ one_state : (ts : List Lexeme) (a b : StateForm) → IsStateForm ts a → IsStat
 one_state ts a b p q =
     let n = one_name ts 1 a.name b.name p.1 q.1 in
     let o = one_named ts 2 keyword.In a.parent b.parent p.2 q.2 in
-    let s = one_marked ts (2 + named_size a.parent) keyword.Start a.start b.start p.3 (subst (λ t. IsMarked ts (2 + named_size t) keyword.Start b.start) (sym o) q.3) in
+    let s = one_marked ts (2 + named_size a.parent) keyword.Start a.start b.start p.3
+    (subst (λ t. IsMarked ts (2 + named_size t) keyword.Start b.start) (sym o) q.3) in
     λ j. record { name = n j; parent = o j; start = s j }
 
 one_assume : (ts : List Lexeme) (a b : TestForm) → IsAssumeForm ts a → IsAssumeForm ts b → a ≡ b
-one_assume ts a b p q = both_end (a ≡ b) in_sum ts 1 (test_size a) (test_size b) (at_end in_sum ts (1 + test_size a) p.3) (at_end in_sum ts (1 + test_size b) q.3) (one_test ts 1 a b p.1 q.1)
+one_assume ts a b p q = both_end (a ≡ b) in_sum ts 1 (test_size a) (test_size b) (at_end in_sum ts (1 + test_size a) p.3)
+    (at_end in_sum ts (1 + test_size b) q.3) (one_test ts 1 a b p.1 q.1)
 
 one_actions : (ts : List Lexeme) (k : Keyword) (a b : ActionsForm) → IsActionsForm k ts a → IsActionsForm k ts b → a ≡ b
 one_actions ts k a b p q =
     let n = one_name ts 1 a.state b.state p.1 q.1 in
-    let e = one_each ts 2 (Reserved keyword.Do) a.actions b.actions p.3 q.3 (at_end in_sum ts (2 + each_size a.actions) p.4) (at_end in_sum ts (2 + each_size b.actions) q.4) in
+    let e = one_each ts 2 (Reserved keyword.Do) a.actions b.actions p.3 q.3 (at_end in_sum ts (2 + each_size a.actions) p.4)
+    (at_end in_sum ts (2 + each_size b.actions) q.4) in
     λ j. record { state = n j; actions = e j }
 
 one_on : (ts : List Lexeme) (a b : OnForm) → IsOnForm ts a → IsOnForm ts b → a ≡ b
@@ -109,9 +118,11 @@ one_on ts a b p q =
     let e = one_each ts (2 + when_size p.when) (Reserved keyword.Do) a.effect b.effect p.effect (subst P c q.effect)
     (narrower ts _ (behind_effect ts a p)) (subst S c (narrower ts _ (behind_effect ts b q))) in
     let d : 2 + when_size q.when + each_size b.effect ≡ 2 + when_size p.when + each_size a.effect = λ j. c j + each_size (sym e j) in
-    let t = one_named ts (2 + when_size p.when + each_size a.effect) keyword.Go a.target b.target p.target (subst (λ i. IsNamed ts i keyword.Go b.target) d q.target) in
+    let t = one_named ts (2 + when_size p.when + each_size a.effect) keyword.Go a.target b.target p.target
+    (subst (λ i. IsNamed ts i keyword.Go b.target) d q.target) in
     let H : ℕ → Option (List ℕ) → Type 0 = λ i o. IsHistory ts (i + named_size o) o b.history in
-    let k : H (2 + when_size p.when + each_size a.effect) a.target = subst (H (2 + when_size p.when + each_size a.effect)) (sym t) (subst (λ i. H i b.target) d q.history) in
+    let k : H (2 + when_size p.when + each_size a.effect) a.target = subst (H (2 + when_size p.when + each_size a.effect)) (sym t)
+    (subst (λ i. H i b.target) d q.history) in
     let h = one_history ts (2 + when_size p.when + each_size a.effect + named_size a.target) a.target a.history b.history p.history k in
     λ j. record { source = n j; guard = g j; effect = e j; target = t j; history = h j }
 
@@ -164,7 +175,8 @@ one_sighted ts a b p q =
 
 pub some_sighted : (ts : List Lexeme) → ((a : Sighted) → IsSighted ts a → ⊥) → ⊥
 some_sighted ts none =
-    none (record { head = reserved_at ts 0; form = None }) (record { head = refl; form = λ s is. none (record { head = reserved_at ts 0; form = Some s }) (record { head = refl; form = is }) })
+    none (record { head = reserved_at ts 0; form = None })
+    (record { head = refl; form = λ s is. none (record { head = reserved_at ts 0; form = Some s }) (record { head = refl; form = is }) })
 
 signed_inside : (ts : List Lexeme) (i : ℕ) (s : Signed) → IsSigned ts i s → i < length ts
 signed_inside ts i (Plain n) h = slice_get_within ts i (Number n) h

@@ -20,13 +20,15 @@ pub record IsCounted (digits left : List ℕ) (value most : ℕ) : Type 0 where
   pub rest : list_all is_ascii_digit left ≡ true
   pub small : value ≤ most
 
-pub counted_more : (digits : List ℕ) (d : ℕ) (left : List ℕ) (value most : ℕ) → IsCounted digits (d ∷ left) value most → with_digit value d ≤ most → IsCounted digits left (with_digit value d) most
+pub counted_more : (digits : List ℕ) (d : ℕ) (left : List ℕ) (value most : ℕ) → IsCounted digits (d ∷ left) value most → with_digit value d ≤ most
+    → IsCounted digits left (with_digit value d) most
 counted_more digits d left value most c few = record { same = c.same; rest = and_second (is_ascii_digit d) (list_all is_ascii_digit left) c.rest; small = few }
 
 pub counted_digit : (digits : List ℕ) (d : ℕ) (left : List ℕ) (value most : ℕ) → IsCounted digits (d ∷ left) value most → is_ascii_digit d ≡ true
 counted_digit digits d left value most c = and_first (is_ascii_digit d) (list_all is_ascii_digit left) c.rest
 
-pub counted_over : (digits : List ℕ) (d : ℕ) (left : List ℕ) (value most : ℕ) → IsCounted digits (d ∷ left) value most → most < with_digit value d → most < decimal_value digits
+pub counted_over : (digits : List ℕ) (d : ℕ) (left : List ℕ) (value most : ℕ) → IsCounted digits (d ∷ left) value most → most < with_digit value d
+    → most < decimal_value digits
 counted_over digits d left value most c over = let h = value_grows (with_digit value d) left in let e = c.same in rw e (omega (arith, h, over))
 
 pub digit_low : (d : ℕ) → is_ascii_digit d ≡ true → 48 ≤ d

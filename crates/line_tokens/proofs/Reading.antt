@@ -1,4 +1,5 @@
-use Rattle.std.proofs.Common.{◌≡◌, ℕ, zero, suc, ◌+◌, ◌-◌, ◌<◌, ◌≤◌, Bool, false, ◌||◌, List, [], ◌∷◌, ◌++◌, length, take, drop, map, get_or, codes, Some, None, refl, sym, ◌∙◌, ap, subst, arith}
+use Rattle.std.proofs.Common.{◌≡◌, ℕ, zero, suc, ◌+◌, ◌-◌, ◌<◌, ◌≤◌, Bool, false, ◌||◌, List, [], ◌∷◌, ◌++◌, length, take, drop, map, get_or}
+use Rattle.std.proofs.Common.{codes, Some, None, refl, sym, ◌∙◌, ap, subst, arith}
 use Rattle.std.proofs.lemmas.List.{drop_more, length-drop, take_more, map-append}
 use Rattle.std.proofs.lemmas.List.Elements.{All-nil, All-cons}
 use Rattle.std.proofs.Math.ListN.{drop_of_length-le}
@@ -30,22 +31,33 @@ pub record IsReadTo (line : List ℕ) (places : List Place) (i : ℕ) (after_giv
   pub items : tokens ≡ map (token_at line) (take i places)
   pub limits : first_limit line false (map (token_at line) places) ≡ first_limit line after_gives (map (token_at line) (drop i places))
 
-first_limit-none : (line : List ℕ) (after : Bool) (t : Token) (ts : List Token) → token_limit after t ≡ None → first_limit line after (t ∷ ts) ≡ first_limit line (after || is_word line (codes "gives") t) ts
+first_limit-none : (line : List ℕ) (after : Bool) (t : Token) (ts : List Token) → token_limit after t ≡ None
+    → first_limit line after (t ∷ ts) ≡ first_limit line (after || is_word line (codes "gives") t) ts
 first_limit-none line after t ts e = rw e refl
 
-first_limit-some : (line : List ℕ) (after : Bool) (t : Token) (ts : List Token) (l : TokenLimit) → token_limit after t ≡ Some l → first_limit line after (t ∷ ts) ≡ Some l
+first_limit-some : (line : List ℕ) (after : Bool) (t : Token) (ts : List Token) (l : TokenLimit) → token_limit after t ≡ Some l
+    → first_limit line after (t ∷ ts) ≡ Some l
 first_limit-some line after t ts l e = rw e refl
 
-pub read_limited : (line : List ℕ) (places : List Place) (i : ℕ) (d : Place) (after : Bool) (tokens : List Token) (l : TokenLimit) → IsReadTo line places i after tokens → i < length places → token_limit after (token_at line (get_or places i d)) ≡ Some l → first_limit line false (map (token_at line) places) ≡ Some l
-read_limited line places i d after tokens l r less e = r.limits ∙ ap (λ ps. first_limit line after (map (token_at line) ps)) (drop_more places i d less) ∙ first_limit-some line after (token_at line (get_or places i d)) (map (token_at line) (drop (i + 1) places)) l e
+pub read_limited : (line : List ℕ) (places : List Place) (i : ℕ) (d : Place) (after : Bool) (tokens : List Token) (l : TokenLimit)
+    → IsReadTo line places i after tokens → i < length places → token_limit after (token_at line (get_or places i d)) ≡ Some l
+    → first_limit line false (map (token_at line) places) ≡ Some l
+read_limited line places i d after tokens l r less e = r.limits ∙ ap (λ ps. first_limit line after (map (token_at line) ps))
+    (drop_more places i d less) ∙ first_limit-some line after (token_at line (get_or places i d)) (map (token_at line) (drop (i + 1) places)) l e
 
-pub read_more : (line : List ℕ) (places : List Place) (i : ℕ) (d : Place) (after : Bool) (tokens : List Token) → IsReadTo line places i after tokens → i < length places → token_limit after (token_at line (get_or places i d)) ≡ None → IsReadTo line places (i + 1) (after || is_word line (codes "gives") (token_at line (get_or places i d))) (tokens ++ token_at line (get_or places i d) ∷ [])
+pub read_more : (line : List ℕ) (places : List Place) (i : ℕ) (d : Place) (after : Bool) (tokens : List Token)
+    → IsReadTo line places i after tokens → i < length places → token_limit after (token_at line (get_or places i d)) ≡ None
+    → IsReadTo line places (i + 1) (after || is_word line (codes "gives") (token_at line (get_or places i d)))
+    (tokens ++ token_at line (get_or places i d) ∷ [])
 read_more line places i d after tokens r less e = record {
-  items = ap (λ ts. ts ++ token_at line (get_or places i d) ∷ []) r.items ∙ sym (ap (map (token_at line)) (take_more places i d less) ∙ map-append (token_at line) (take i places) (get_or places i d ∷ []));
-  limits = r.limits ∙ ap (λ ps. first_limit line after (map (token_at line) ps)) (drop_more places i d less) ∙ first_limit-none line after (token_at line (get_or places i d)) (map (token_at line) (drop (i + 1) places)) e;
+  items = ap (λ ts. ts ++ token_at line (get_or places i d) ∷ []) r.items
+      ∙ sym (ap (map (token_at line)) (take_more places i d less) ∙ map-append (token_at line) (take i places) (get_or places i d ∷ []));
+  limits = r.limits ∙ ap (λ ps. first_limit line after (map (token_at line) ps)) (drop_more places i d less)
+      ∙ first_limit-none line after (token_at line (get_or places i d)) (map (token_at line) (drop (i + 1) places)) e;
 }
 
-pub read_end : (line : List ℕ) (places : List Place) (i : ℕ) (after : Bool) (tokens : List Token) → IsReadTo line places i after tokens → length places ≤ i → first_limit line false (map (token_at line) places) ≡ None
+pub read_end : (line : List ℕ) (places : List Place) (i : ℕ) (after : Bool) (tokens : List Token) → IsReadTo line places i after tokens
+    → length places ≤ i → first_limit line false (map (token_at line) places) ≡ None
 read_end line places i after tokens r all = r.limits ∙ ap (λ ps. first_limit line after (map (token_at line) ps)) (drop_of_length-le places all)
 
 pub inside_place : (line : List ℕ) (p : Place) (t : Token) → IsPlace line p → t ≡ token_at line p → IsInside line t
@@ -54,15 +66,18 @@ inside_place line p t h e = let P : Token → Type 0 = λ u. IsInside line u in 
 -- the tokens at the places stand inside the line
 pub all_inside : (line : List ℕ) (at : ℕ) (ps : List Place) → HasPlaces line at ps → All (IsInside line) (map (token_at line) ps)
 all_inside line at [] h = All-nil (IsInside line)
-all_inside line at (q ∷ qs) h = let p = place_of_token line q h.1 h.3 in All-cons (IsInside line) (token_at line q) (map (token_at line) qs) (p.order, p.within) (all_inside line q.to qs h.4)
+all_inside line at (q ∷ qs) h = let p = place_of_token line q h.1 h.3 in
+    All-cons (IsInside line) (token_at line q) (map (token_at line) qs) (p.order, p.within) (all_inside line q.to qs h.4)
 
 -- the first limit of the numbers and names is the first of all
-pub refused_first : (line : List ℕ) (ps : List Place) (e : TokenError) → HasPlaces (content_of line) 0 ps → IsLimited (content_of line) (map (token_at (content_of line)) ps) e → IsRefused line e
+pub refused_first : (line : List ℕ) (ps : List Place) (e : TokenError) → HasPlaces (content_of line) 0 ps
+    → IsLimited (content_of line) (map (token_at (content_of line)) ps) e → IsRefused line e
 refused_first line ps Byte h l = absurd l
 refused_first line ps (Limit w) h l = (map (token_at (content_of line)) ps, record { places = ps; stand = h; are = refl }, rw l refl)
 refused_first line ps Memory h l = tt
 
-pub refused_in : (content line : List ℕ) (ps : List Place) (e : TokenError) → content ≡ content_of line → HasPlaces content 0 ps → IsLimited content (map (token_at content) ps) e → IsRefused line e
+pub refused_in : (content line : List ℕ) (ps : List Place) (e : TokenError) → content ≡ content_of line → HasPlaces content 0 ps
+    → IsLimited content (map (token_at content) ps) e → IsRefused line e
 refused_in content line ps e same h l =
     let P : List ℕ → Type 0 = λ xs. HasPlaces xs 0 ps → IsLimited xs (map (token_at xs) ps) e → IsRefused line e in
     subst P (sym same) (refused_first line ps e) h l

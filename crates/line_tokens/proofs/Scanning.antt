@@ -1,4 +1,5 @@
-use Rattle.std.proofs.Common.{◌≡◌, ℕ, zero, suc, ◌+◌, ◌-◌, ◌<◌, ◌≤◌, Bool, true, false, not, List, [], ◌∷◌, ◌++◌, length, take, drop, cond, None, refl, sym, ◌∙◌, ap, subst, arith, append_assoc, ◌⊎◌, inl, inr}
+use Rattle.std.proofs.Common.{◌≡◌, ℕ, zero, suc, ◌+◌, ◌-◌, ◌<◌, ◌≤◌, Bool, true, false, not, List, [], ◌∷◌, ◌++◌, length, take, drop, cond, None}
+use Rattle.std.proofs.Common.{refl, sym, ◌∙◌, ap, subst, arith, append_assoc, ◌⊎◌, inl, inr}
 use Rattle.std.specs.List.{prefix_len, list_all}
 use Rattle.std.proofs.lemmas.List.{take_all, drop-drop, length-drop, append-nil}
 use Rattle.std.proofs.lemmas.Bool.{cases_lt, cases_eq}
@@ -55,7 +56,10 @@ prefix_is : (p : ℕ → Bool) (k : ℕ) (ys : List ℕ) → list_all p (take k 
 prefix_is p zero [] all h = absurd (true_false (sym h))
 prefix_is p zero (y ∷ ys) all h = prefix_none p y ys (p y) refl h
 prefix_is p (suc k) [] all h = absurd (true_false (sym h))
-prefix_is p (suc k) (y ∷ ys) all h = rw (and_first (p y) (list_all p (take k ys)) all, prefix_is p k ys (and_second (p y) (list_all p (take k ys)) all) h) (omega arith)
+prefix_is p (suc k) (y ∷ ys) all h = rw (
+  and_first (p y) (list_all p (take k ys)) all,
+  prefix_is p k ys (and_second (p y) (list_all p (take k ys)) all) h,
+) (omega arith)
 
 -- where all pass, none that does not stands anywhere
 all_pass : (p : ℕ → Bool) (k : ℕ) (ys : List ℕ) → list_all p ys ≡ true → starts (λ b. not (p b)) (drop k ys) ≡ true → ⊥
@@ -71,14 +75,17 @@ starts_on : (line : List ℕ) (at from n : ℕ) → at ≤ from → IsLongest (d
 starts_on line at from n le t = rw (drop_on line at from le) (starts_token (drop from line) n t)
 
 -- the first token from a byte on stands behind the blanks there
-token_from : (line : List ℕ) (at from n : ℕ) → at ≤ from → list_all is_blank (take (from - at) (drop at line)) ≡ true → IsLongest (drop from line) n → from ≡ at + prefix_len is_blank (drop at line)
+token_from : (line : List ℕ) (at from n : ℕ) → at ≤ from → list_all is_blank (take (from - at) (drop at line)) ≡ true
+    → IsLongest (drop from line) n → from ≡ at + prefix_len is_blank (drop at line)
 token_from line at from n le blank t = let e = prefix_is is_blank (from - at) (drop at line) blank (starts_on line at from n le t) in omega (arith, e)
 
 -- where a token or a fault stands behind the blanks, not all is blank
 not_blank : (line : List ℕ) (at : ℕ) → at + prefix_len is_blank (drop at line) < length line → list_all is_blank (drop at line) ≡ true → ⊥
-not_blank line at less all = true_false (sym all ∙ ap (list_all is_blank) (sym (take_all (length (drop at line)) (drop at line) (omega arith))) ∙ run_stops is_blank (drop at line) (length (drop at line)) (rw (length-drop at line) (omega arith)) (omega arith))
+not_blank line at less all = true_false (sym all ∙ ap (list_all is_blank) (sym (take_all (length (drop at line)) (drop at line) (omega arith)))
+    ∙ run_stops is_blank (drop at line) (length (drop at line)) (rw (length-drop at line) (omega arith)) (omega arith))
 
-pub fault_none : (line : List ℕ) (at : ℕ) → at + prefix_len is_blank (drop at line) < length line → FindsLongest (drop (at + prefix_len is_blank (drop at line)) line) None → (ps : List Place) → HasPlaces line at ps → ⊥
+pub fault_none : (line : List ℕ) (at : ℕ) → at + prefix_len is_blank (drop at line) < length line
+    → FindsLongest (drop (at + prefix_len is_blank (drop at line)) line) None → (ps : List Place) → HasPlaces line at ps → ⊥
 fault_none line at less none [] h = not_blank line at less h
 fault_none line at less none (q ∷ qs) h =
     let e = token_from line at q.from (q.to - q.from) h.0 h.2 h.3 in
@@ -89,7 +96,9 @@ pub end_blank : (line : List ℕ) (at : ℕ) → at ≤ length line → length l
 end_blank line at le more = let few = length-drop at line in
     ap (list_all is_blank) (sym (take_all (prefix_len is_blank (drop at line)) (drop at line) (rw few (omega arith)))) ∙ run_passes is_blank (drop at line)
 
-pub first_place : (line : List ℕ) (at k : ℕ) → at + prefix_len is_blank (drop at line) < length line → IsLongest (drop (at + prefix_len is_blank (drop at line)) line) k → IsFirst line at (record { from = at + prefix_len is_blank (drop at line); to = at + prefix_len is_blank (drop at line) + k })
+pub first_place : (line : List ℕ) (at k : ℕ) → at + prefix_len is_blank (drop at line) < length line
+    → IsLongest (drop (at + prefix_len is_blank (drop at line)) line) k
+    → IsFirst line at (record { from = at + prefix_len is_blank (drop at line); to = at + prefix_len is_blank (drop at line) + k })
 first_place line at k less t =
     let n : ℕ = prefix_len is_blank (drop at line) in
     let width : at + n - at ≡ n = omega arith in
@@ -106,10 +115,12 @@ first_place line at k less t =
     }
 
 -- behind the first token stand the others
-pub first_only : (line : List ℕ) (at : ℕ) (p : Place) → IsFirst line at p → (ps : List Place) → HasPlaces line at ps → (rest : List Place) × (ps ≡ p ∷ rest) × HasPlaces line p.to rest
+pub first_only : (line : List ℕ) (at : ℕ) (p : Place) → IsFirst line at p → (ps : List Place) → HasPlaces line at ps
+    → (rest : List Place) × (ps ≡ p ∷ rest) × HasPlaces line p.to rest
 first_only line at p f [] h = absurd (all_pass is_blank (p.from - at) (drop at line) h (starts_on line at p.from (p.to - p.from) f.after f.longest))
 first_only line at p f (q ∷ qs) h =
-    let from : q.from ≡ p.from = token_from line at q.from (q.to - q.from) h.0 h.2 h.3 ∙ sym (token_from line at p.from (p.to - p.from) f.after f.blank f.longest) in
+    let from : q.from ≡ p.from = token_from line at q.from (q.to - q.from) h.0 h.2 h.3
+    ∙ sym (token_from line at p.from (p.to - p.from) f.after f.blank f.longest) in
     let P : ℕ → Type 0 = λ k. IsLongest (drop k line) (q.to - q.from) in
     let long : q.to - q.from ≡ p.to - p.from = longest_one (drop p.from line) (q.to - q.from) (p.to - p.from) (subst P from h.3) f.longest in
     let some : q.from < q.to = h.1 in
@@ -128,15 +139,19 @@ pub record IsScanned (line : List ℕ) (at : ℕ) (found : List Place) : Type 0 
 pub scanned_none : (line : List ℕ) → IsScanned line 0 []
 scanned_none line = record { within = omega arith; back = λ rest h. h; only = λ all h. (all, refl, h) }
 
-pub scanned_more : (line : List ℕ) (at : ℕ) (found : List Place) (p : Place) → IsScanned line at found → IsFirst line at p → IsScanned line p.to (found ++ p ∷ [])
+pub scanned_more : (line : List ℕ) (at : ℕ) (found : List Place) (p : Place) → IsScanned line at found → IsFirst line at p
+    → IsScanned line p.to (found ++ p ∷ [])
 scanned_more line at found p s f = record {
   within = f.within;
-  back = λ rest h. let P : List Place → Type 0 = λ ps. HasPlaces line 0 ps in subst P (sym (append_assoc found (p ∷ []) rest)) (s.back (p ∷ rest) (f.after, f.some, f.blank, f.longest, h));
-  only = λ all h. let r = s.only all h in let o = first_only line at p f r.0 r.2 in (o.0, r.1 ∙ ap (λ ps. found ++ ps) o.1 ∙ sym (append_assoc found (p ∷ []) o.0), o.2);
+  back = λ rest h. let P : List Place → Type 0 = λ ps. HasPlaces line 0 ps in
+      subst P (sym (append_assoc found (p ∷ []) rest)) (s.back (p ∷ rest) (f.after, f.some, f.blank, f.longest, h));
+  only = λ all h. let r = s.only all h in let o = first_only line at p f r.0 r.2 in
+      (o.0, r.1 ∙ ap (λ ps. found ++ ps) o.1 ∙ sym (append_assoc found (p ∷ []) o.0), o.2);
 }
 
 pub scanned_end : (line : List ℕ) (at : ℕ) (found : List Place) → IsScanned line at found → list_all is_blank (drop at line) ≡ true → HasPlaces line 0 found
 scanned_end line at found s end = let P : List Place → Type 0 = λ ps. HasPlaces line 0 ps in subst P (append-nil found) (s.back [] end)
 
-pub scanned_fault : (line : List ℕ) (at : ℕ) (found : List Place) → IsScanned line at found → ((ps : List Place) → HasPlaces line at ps → ⊥) → (ps : List Place) → HasPlaces line 0 ps → ⊥
+pub scanned_fault : (line : List ℕ) (at : ℕ) (found : List Place) → IsScanned line at found → ((ps : List Place) → HasPlaces line at ps → ⊥)
+    → (ps : List Place) → HasPlaces line 0 ps → ⊥
 scanned_fault line at found s none ps h = let r = s.only ps h in none r.0 r.2

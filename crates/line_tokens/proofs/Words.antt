@@ -37,7 +37,8 @@ no_symbol b (c ∷ d ∷ bs) p q = refl
 
 -- what a run is whose first byte is a letter, a digit, or neither
 pub name_at : (b : ℕ) (ys : List ℕ) → starts_name b ≡ true → is_token (b ∷ ys) ≡ list_all continues_name ys
-name_at b ys h = rw (h, letter_no_digit b h, no_symbol b ys (letter_no_symbol b h) (letter_not_before b h)) (or_nothing (list_all continues_name ys || false) ∙ or_nothing (list_all continues_name ys))
+name_at b ys h = rw (h, letter_no_digit b h, no_symbol b ys (letter_no_symbol b h) (letter_not_before b h))
+    (or_nothing (list_all continues_name ys || false) ∙ or_nothing (list_all continues_name ys))
 
 pub number_at : (b : ℕ) (ys : List ℕ) → is_ascii_digit b ≡ true → is_token (b ∷ ys) ≡ list_all is_ascii_digit ys
 number_at b ys h = rw (digit_no_letter b h, h, no_symbol b ys (digit_no_symbol b h) (digit_not_before b h)) (or_nothing (list_all is_ascii_digit ys))
@@ -46,7 +47,8 @@ pub symbol_at : (b : ℕ) (ys : List ℕ) → starts_name b ≡ false → is_asc
 symbol_at b ys g h = rw (g, h) refl
 
 -- the run of bytes at the front that pass, and each longer one
-run_passes-at : (p : ℕ → Bool) (x : ℕ) (xs : List ℕ) (b : Bool) → p x ≡ b → list_all p (take (prefix_len p xs) xs) ≡ true → list_all p (take (cond b (1 + prefix_len p xs) 0) (x ∷ xs)) ≡ true
+run_passes-at : (p : ℕ → Bool) (x : ℕ) (xs : List ℕ) (b : Bool) → p x ≡ b → list_all p (take (prefix_len p xs) xs) ≡ true
+    → list_all p (take (cond b (1 + prefix_len p xs) 0) (x ∷ xs)) ≡ true
 run_passes-at p x xs true e rest = let one : 1 + prefix_len p xs ≡ suc (prefix_len p xs) = omega arith in rw (one, e) rest
 run_passes-at p x xs false e rest = refl
 
@@ -54,7 +56,8 @@ pub run_passes : (p : ℕ → Bool) (xs : List ℕ) → list_all p (take (prefix
 run_passes p [] = refl
 run_passes p (x ∷ xs) = run_passes-at p x xs (p x) refl (run_passes p xs)
 
-run_stops-at : (p : ℕ → Bool) (x : ℕ) (xs : List ℕ) (m : ℕ) (b : Bool) → p x ≡ b → (prefix_len p xs < m → list_all p (take m xs) ≡ false) → cond b (1 + prefix_len p xs) 0 < suc m → list_all p (x ∷ take m xs) ≡ false
+run_stops-at : (p : ℕ → Bool) (x : ℕ) (xs : List ℕ) (m : ℕ) (b : Bool) → p x ≡ b → (prefix_len p xs < m → list_all p (take m xs) ≡ false)
+    → cond b (1 + prefix_len p xs) 0 < suc m → list_all p (x ∷ take m xs) ≡ false
 run_stops-at p x xs m true e rest h = rw e (rest (omega arith))
 run_stops-at p x xs m false e rest h = rw e refl
 
@@ -67,7 +70,8 @@ pub true_false : true ≡ false → ⊥
 true_false e = cc
 
 -- the longest token at the front is the whole run of a class, where such a run is a token exactly if all of it is of the class
-longest_run : (p : ℕ → Bool) (b : ℕ) (bs : List ℕ) → p b ≡ true → ((ys : List ℕ) → is_token (b ∷ ys) ≡ list_all p ys) → IsLongest (b ∷ bs) (prefix_len p (b ∷ bs))
+longest_run : (p : ℕ → Bool) (b : ℕ) (bs : List ℕ) → p b ≡ true → ((ys : List ℕ) → is_token (b ∷ ys) ≡ list_all p ys)
+    → IsLongest (b ∷ bs) (prefix_len p (b ∷ bs))
 longest_run p b bs h at = let size : prefix_len p (b ∷ bs) ≡ suc (prefix_len p bs) = rw h (omega arith) in rw size record {
   some = omega arith;
   within = within;
@@ -131,13 +135,15 @@ joined_longest (b ∷ c ∷ bs) g h j = record {
   longer (suc m) more few is = no_token b (take m (c ∷ bs)) g h (long_symbol b (c ∷ bs) (suc m) more few) is
 
 -- no token that begins with neither letter nor digit is longer than one byte, unless it ends in `=`
-no_longer : (b : ℕ) (bs : List ℕ) → starts_name b ≡ false → is_ascii_digit b ≡ false → starts_joined (b ∷ bs) ≡ false → (m : ℕ) → 1 < m → m ≤ length (b ∷ bs) → is_token (take m (b ∷ bs)) ≡ true → ⊥
+no_longer : (b : ℕ) (bs : List ℕ) → starts_name b ≡ false → is_ascii_digit b ≡ false → starts_joined (b ∷ bs) ≡ false → (m : ℕ) → 1 < m
+    → m ≤ length (b ∷ bs) → is_token (take m (b ∷ bs)) ≡ true → ⊥
 no_longer b bs g h j zero more few is = omega arith
 no_longer b bs g h j (suc zero) more few is = omega arith
 no_longer b bs g h j (suc (suc zero)) more few is = no_token b (take 1 bs) g h (two_symbol b bs j few) is
 no_longer b bs g h j (suc (suc (suc m))) more few is = no_token b (take (suc (suc m)) bs) g h (long_symbol b bs (suc (suc (suc m))) (omega arith) few) is
 
-pub symbol_longest : (xs : List ℕ) → starts starts_name xs ≡ false → starts is_ascii_digit xs ≡ false → starts_joined xs ≡ false → starts_symbol xs ≡ true → IsLongest xs 1
+pub symbol_longest : (xs : List ℕ) → starts starts_name xs ≡ false → starts is_ascii_digit xs ≡ false → starts_joined xs ≡ false
+    → starts_symbol xs ≡ true → IsLongest xs 1
 symbol_longest [] g h j s = absurd (true_false (sym s))
 symbol_longest (b ∷ bs) g h j s = record {
   some = omega arith;
@@ -146,7 +152,8 @@ symbol_longest (b ∷ bs) g h j s = record {
   longest = no_longer b bs g h j;
 }
 
-pub none_longest : (xs : List ℕ) → starts starts_name xs ≡ false → starts is_ascii_digit xs ≡ false → starts_joined xs ≡ false → starts_symbol xs ≡ false → (m : ℕ) → m ≤ length xs → is_token (take m xs) ≡ true → ⊥
+pub none_longest : (xs : List ℕ) → starts starts_name xs ≡ false → starts is_ascii_digit xs ≡ false → starts_joined xs ≡ false
+    → starts_symbol xs ≡ false → (m : ℕ) → m ≤ length xs → is_token (take m xs) ≡ true → ⊥
 none_longest [] g h j s zero few is = true_false (sym is)
 none_longest [] g h j s (suc m) few is = omega arith
 none_longest (b ∷ bs) g h j s zero few is = true_false (sym is)

@@ -1,5 +1,6 @@
 -- The limits of a line that its tokens show, in their order, and what the tokens of a line are or why there are none.
-use Rattle.std.specs.Prelude.{◌≡◌, ℕ, ◌-◌, pos, Bool, false, ◌||◌, if◌then◌else◌, nat_lt, int_lt, List, [], ◌∷◌, length, count_by, codes, Option, Some, None}
+use Rattle.std.specs.Prelude.{◌≡◌, ℕ, ◌-◌, pos, Bool, false, ◌||◌, if◌then◌else◌, nat_lt, int_lt, List, [], ◌∷◌}
+use Rattle.std.specs.Prelude.{length, count_by, codes, Option, Some, None}
 use Rattle.std.specs.Str.{bytes_eq}
 use Rattle.line_tokens.specs.declared.token.Word.{Word}
 use Rattle.line_tokens.specs.declared.token.Word.TheVariants.{Name, Number, Symbol}
@@ -36,7 +37,8 @@ is_word line word t = bytes_eq (spelling line t) word
 -- the limit on numbers and names that the first token from the left passes
 abbrev pub first_limit : List ℕ → Bool → List Token → Option TokenLimit
 first_limit line after_gives [] = None
-first_limit line after_gives (t ∷ ts) = or_else (token_limit after_gives t) (first_limit line (after_gives || is_word line (codes "gives") t) ts)
+first_limit line after_gives (t ∷ ts) = or_else (token_limit after_gives t)
+    (first_limit line (after_gives || is_word line (codes "gives") t) ts)
 
 -- the token is `(` or `not`
 abbrev pub is_nesting : List ℕ → Token → Bool
@@ -44,7 +46,9 @@ is_nesting line t = is_word line (codes "(") t || is_word line (codes "not") t
 
 -- the first limit that the tokens of a line pass: on numbers and names, then on their number, then on nesting
 abbrev pub limit_of : List ℕ → List Token → Option TokenLimit
-limit_of line ts = or_else (first_limit line false ts) (or_else (if nat_lt 1024 (length ts) then Some Tokens else None) (if nat_lt 64 (count_by (is_nesting line) ts) then Some Nesting else None))
+limit_of line ts = or_else (first_limit line false ts)
+    (or_else (if nat_lt 1024 (length ts) then Some Tokens else None)
+    (if nat_lt 64 (count_by (is_nesting line) ts) then Some Nesting else None))
 
 -- the line has these tokens, and they pass no limit
 pub record IsRead (line : List ℕ) (tokens : List Token) : Type 0 where
@@ -54,7 +58,8 @@ pub record IsRead (line : List ℕ) (tokens : List Token) : Type 0 where
 -- the line has no tokens, or tokens that pass this limit first
 abbrev pub IsRefused : List ℕ → TokenError → Type 0
 IsRefused line Byte = (tokens : List Token) → IsTokenized (content_of line) tokens → ⊥
-IsRefused line (Limit l) = (tokens : List Token) × IsTokenized (content_of line) tokens × (limit_of (content_of line) tokens ≡ Some l)
+IsRefused line (Limit l) = (tokens : List Token) × IsTokenized (content_of line) tokens
+    × (limit_of (content_of line) tokens ≡ Some l)
 IsRefused line Memory = Unit {0}
 
 -- the tokens at these places pass this limit first, among those on numbers and names

@@ -1,5 +1,6 @@
 -- The runs of bytes that spell a token, and the token that such a run is.
-use Rattle.std.specs.Prelude.{ℕ, ◌+◌, ◌-◌, ◌*◌, pos, Bool, false, ◌&&◌, ◌||◌, if◌then◌else◌, ◌==◌, List, [], ◌∷◌, fold, codes}
+use Rattle.std.specs.Prelude.{ℕ, ◌+◌, ◌-◌, ◌*◌, pos, Bool, false, ◌&&◌, ◌||◌, if◌then◌else◌, ◌==◌, List, [], ◌∷◌}
+use Rattle.std.specs.Prelude.{fold, codes}
 use Rattle.std.specs.List.{list_all, list_any}
 use Rattle.std.specs.Char.{is_ascii_digit}
 use Rattle.lin_form.specs.Name.{starts_name, spells_name}
@@ -50,4 +51,5 @@ starts p (b ∷ bs) = p b
 
 -- the word that a token is, which its first byte tells
 abbrev pub word_of : List ℕ → Word
-word_of bytes = if starts starts_name bytes then Name else if starts is_ascii_digit bytes then Number (pos (decimal_value bytes)) else Symbol (symbol_number bytes)
+word_of bytes = if starts starts_name bytes then Name else if starts is_ascii_digit bytes
+    then Number (pos (decimal_value bytes)) else Symbol (symbol_number bytes)

@@ -17,7 +17,9 @@ pub record IsLongest (bytes : List ℕ) (n : ℕ) : Type 0 where
 -- from the byte `at` on the line has tokens at these places and blanks between them and at its end
 abbrev pub HasPlaces : List ℕ → ℕ → List Place → Type 0
 HasPlaces line at [] = list_all is_blank (drop at line) ≡ true
-HasPlaces line at (p ∷ ps) = (at ≤ p.from) × (p.from < p.to) × (list_all is_blank (take (p.from - at) (drop at line)) ≡ true) × IsLongest (drop p.from line) (p.to - p.from) × HasPlaces line p.to ps
+HasPlaces line at (p ∷ ps) = (at ≤ p.from) × (p.from < p.to)
+    × (list_all is_blank (take (p.from - at) (drop at line)) ≡ true) × IsLongest (drop p.from line) (p.to - p.from)
+    × HasPlaces line p.to ps
 
 -- the bytes of the line from one place to before another
 abbrev pub run : List ℕ → ℕ → ℕ → List ℕ

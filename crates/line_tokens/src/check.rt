@@ -1,10 +1,12 @@
-ghost use Rattle.std.specs.Prelude.{◌≡◌, ℕ, ◌+◌, ◌<◌, ◌≤◌, pos, true, false, List, length, map, count_by, codes, ◌||◌, All, OnOk, IfErr, MatchOption, MatchResult, Option, Some, None};
+ghost use Rattle.std.specs.Prelude.{◌≡◌, ℕ, ◌+◌, ◌<◌, ◌≤◌, pos, true, false, List, length, map, count_by, codes};
+ghost use Rattle.std.specs.Prelude.{◌||◌, All, OnOk, IfErr, MatchOption, MatchResult, Option, Some, None};
 ghost use Rattle.std.specs.List.{list_all};
 ghost use Rattle.line_tokens.specs.Spelling.{starts, is_token, decimal_value, symbol_number, word_of};
 ghost use Rattle.lin_form.specs.Name.{starts_name};
 ghost use Rattle.std.specs.Char.{is_ascii_digit};
 ghost use Rattle.line_tokens.specs.Tokens.{HasPlaces, IsPlace, IsInside, run, token_at};
-ghost use Rattle.line_tokens.specs.Limits.{IsLimited, first_limit, word_limit, token_limit, largest_literal, is_word, is_nesting};
+ghost use Rattle.line_tokens.specs.Limits.{IsLimited, first_limit, word_limit, token_limit, largest_literal};
+ghost use Rattle.line_tokens.specs.Limits.{is_word, is_nesting};
 
 use crate::error::{TokenError, TokenLimit};
 use crate::place::Place;
@@ -56,7 +58,9 @@ fn symbol(bytes: &[u8]) -> u8
 /// The word that a token spells, or the limit that it passes.
 fn word(bytes: &[u8], after_gives: bool) -> Result<Word, TokenLimit>
     requires { is_token bytes.now ≡ true }
-    ensures { MatchResult result (λ w. (w ≡ word_of bytes.now) × (word_limit after_gives w (length bytes.now) ≡ None)) (λ l. word_limit after_gives (word_of bytes.now) (length bytes.now) ≡ Some l) }
+    ensures { MatchResult result (λ w. (w ≡ word_of bytes.now)
+        × (word_limit after_gives w (length bytes.now) ≡ None))
+        (λ l. word_limit after_gives (word_of bytes.now) (length bytes.now) ≡ Some l) }
 {
     if begins_with_name(bytes) {
         if bytes.len() > MOST_NAME_BYTES {
@@ -76,7 +80,8 @@ fn word(bytes: &[u8], after_gives: bool) -> Result<Word, TokenLimit>
 /// The token at a place of the line, or the limit that it passes.
 fn token(line: &[u8], place: Place, after_gives: bool) -> Result<Token, TokenLimit>
     requires { IsPlace line.now place }
-    ensures { MatchResult result (λ t. (t ≡ token_at line.now place) × (token_limit after_gives t ≡ None)) (λ l. token_limit after_gives (token_at line.now place) ≡ Some l) }
+    ensures { MatchResult result (λ t. (t ≡ token_at line.now place) × (token_limit after_gives t ≡ None))
+        (λ l. token_limit after_gives (token_at line.now place) ≡ Some l) }
 {
     let word = word(&line[place.from..place.to], after_gives)?;
     Ok(Token {
@@ -93,10 +98,12 @@ fn stands_after_gives(line: &[u8], token: &Token, after_gives: bool) -> bool
     after_gives || is_spelled(line, token, b"gives")
 }
 
-/// Puts the tokens at these places in place of what the list holds, or tells the first limit on numbers and names that they pass.
+/// Puts the tokens at these places in place of what the list holds, or tells the first limit on numbers and names
+/// that they pass.
 pub(crate) fn read(line: &[u8], places: &[Place], tokens: &mut Vec<Token>) -> Result<(), TokenError>
     requires { HasPlaces line.now 0 places.now }
-    ensures ok { OnOk result ((tokens.new.items ≡ map (token_at line.now) places.now) × (first_limit line.now false tokens.new.items ≡ None)) }
+    ensures ok { OnOk result ((tokens.new.items ≡ map (token_at line.now) places.now)
+        × (first_limit line.now false tokens.new.items ≡ None)) }
     ensures err { IfErr result (λ e. IsLimited line.now (map (token_at line.now) places.now) e) }
 {
     tokens.clear();

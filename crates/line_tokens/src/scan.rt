@@ -23,10 +23,12 @@ fn next_place(line: &[u8], at: usize) -> Next
     }
 }
 
-/// Puts the places of a line's tokens in place of what the list holds, and tells whether there are tokens that make up the
+/// Puts the places of a line's tokens in place of what the list holds, and tells whether there are tokens that make
+/// up the
 /// line: there are none where some byte is not allowed or begins no token.
 pub(crate) fn places(line: &[u8], found: &mut Vec<Place>) -> Result<bool, AllocError>
-    ensures { IfOk result (λ tokenized. MatchBool tokenized (HasPlaces line.now 0 found.new.items) ((ps : List Place) → HasPlaces line.now 0 ps → ⊥)) }
+    ensures { IfOk result (λ tokenized. MatchBool tokenized (HasPlaces line.now 0 found.new.items)
+        ((ps : List Place) → HasPlaces line.now 0 ps → ⊥)) }
 {
     found.clear();
     let mut at = 0;

@@ -47,7 +47,8 @@ impl Tokenizer {
         self.tokens.as_slice()
     }
 
-    /// Reads the tokens of a line, or tells the first fault or limit that they show: a byte that is not allowed or begins no
+    /// Reads the tokens of a line, or tells the first fault or limit that they show: a byte that is not allowed or
+    /// begins no
     /// token, then a number or a name that is too large, then too many tokens, then too much nesting.
     pub fn read(&mut self, line: &[u8]) -> Result<(), TokenError>
         ensures ok { OnOk result (IsRead line.now self.new) }

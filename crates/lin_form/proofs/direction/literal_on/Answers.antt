@@ -8,7 +8,11 @@ invariant_of-atom c =
     let fits : FitsSigned w64 c.constant_on.result = record { sfits = c.constant_on.type_inv } in
     let d = c.ranges.divisor in
     let k = c.ranges.constant in
-    record { normal = (literal_made c.args.leads c.args.divisor c.args.constant _ c.args.normal.now c.from_slice.result c.requires.direction c.requires.small (c.from_slice.ensures ∙ c.as_slice.ensures.value) (to_z-of_z w64 c.constant_on.result fits ∙ simp to_z-of_z at c.constant_on.ensures)).0 }
+    record {
+      normal = (literal_made c.args.leads c.args.divisor c.args.constant _ c.args.normal.now
+          c.from_slice.result c.requires.direction c.requires.small (c.from_slice.ensures ∙ c.as_slice.ensures.value)
+          (to_z-of_z w64 c.constant_on.result fits ∙ simp to_z-of_z at c.constant_on.ensures)).0;
+    }
 
 pub returns : goal.returns
 returns c =
@@ -16,6 +20,8 @@ returns c =
     let d = c.ranges.divisor in
     let k = c.ranges.constant in
     record {
-      atom = (literal_made c.args.leads c.args.divisor c.args.constant _ c.args.normal.now c.from_slice.result c.requires.direction c.requires.small (c.from_slice.ensures ∙ c.as_slice.ensures.value) (to_z-of_z w64 c.constant_on.result fits ∙ simp to_z-of_z at c.constant_on.ensures)).1;
+      atom = (literal_made c.args.leads c.args.divisor c.args.constant _ c.args.normal.now c.from_slice.result
+          c.requires.direction c.requires.small (c.from_slice.ensures ∙ c.as_slice.ensures.value)
+          (to_z-of_z w64 c.constant_on.result fits ∙ simp to_z-of_z at c.constant_on.ensures)).1;
       side = c.requires.direction.side;
     }

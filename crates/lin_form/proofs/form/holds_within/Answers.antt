@@ -5,9 +5,12 @@ use Rattle.lin_form.specs.Form.{memory_part, relates, sum_of_products}
 use Rattle.lin_form.proofs.Sizes.{value-bound, value-parts, wide}
 use Rattle.lin_form.proofs.form.holds_within.Goals as goal
 
-value : (c : goal.After-memory_part) → c.short_dot-inputs.result +ℤ c.memory_part.result ≡ sum_of_products c.args.comparison.now.form.inputs c.args.vector.now +ℤ memory_part c.args.comparison.now.form c.args.memory.now
+value : (c : goal.After-memory_part) → c.short_dot-inputs.result +ℤ c.memory_part.result
+    ≡ sum_of_products c.args.comparison.now.form.inputs c.args.vector.now +ℤ memory_part c.args.comparison.now.form
+    c.args.memory.now
 value c =
-    let inputs : c.short_dot-inputs.result ≡ sum_of_products c.args.comparison.now.form.inputs c.args.vector.now = rw (c.as_slice.ensures.value, c.as_slice-2.ensures.value) at c.short_dot-inputs.ensures in
+    let inputs : c.short_dot-inputs.result ≡ sum_of_products c.args.comparison.now.form.inputs c.args.vector.now =
+    rw (c.as_slice.ensures.value, c.as_slice-2.ensures.value) at c.short_dot-inputs.ensures in
     λ i. inputs i +ℤ c.memory_part.ensures.value i
 
 small : (c : goal.After-memory_part) → unsigned_abs (c.short_dot-inputs.result +ℤ c.memory_part.result) ≤ 900901000000000
@@ -27,4 +30,5 @@ returns c =
     let b = small c.before in
     let s = fits_signed_from_abs w64 (c.short_dot-inputs.result +ℤ c.memory_part.result) (omega arith) in
     let t = wide (c.short_dot-inputs.result +ℤ c.memory_part.result) s in
-    simp to_z-of_z at c.relates.ensures ∙ ap (relates c.args.comparison.now.relation) (value c.before ∙ value-parts c.args.comparison.now.form c.args.vector.now c.args.memory.now)
+    simp to_z-of_z at c.relates.ensures ∙ ap (relates c.args.comparison.now.relation)
+    (value c.before ∙ value-parts c.args.comparison.now.form c.args.vector.now c.args.memory.now)

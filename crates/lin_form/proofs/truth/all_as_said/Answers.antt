@@ -16,7 +16,12 @@ pub loop-literal-preserved : goal.loop-literal-preserved
 loop-literal-preserved c =
     let P : Literal → Type 0 = λ literal. IsAsSaid literal c.args.vector.now in
     let here : P c.literal-item.result = sym c.atom_holds.ensures ∙ same _ _ c.if-atom_holds-literal.false in
-    All-more P c.args.literals.now c.loop-literal.literal-index c.literal-item.result c.loop-literal-test.true c.loop-literal.invariant (subst P c.literal-item.is here)
+    All-more P c.args.literals.now c.loop-literal.literal-index c.literal-item.result c.loop-literal-test.true
+    c.loop-literal.invariant (subst P c.literal-item.is here)
 
 pub returns : goal.returns
-returns c = (λ _. subst (λ literals. AreAsSaid literals c.args.vector.now) (take_all c.loop-literal.literal-index c.args.literals.now c.loop-literal-test.false) c.loop-literal.invariant, λ _. refl)
+returns c = (
+  λ _. subst (λ literals. AreAsSaid literals c.args.vector.now)
+      (take_all c.loop-literal.literal-index c.args.literals.now c.loop-literal-test.false) c.loop-literal.invariant,
+  λ _. refl,
+)

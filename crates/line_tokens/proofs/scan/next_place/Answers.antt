@@ -10,13 +10,15 @@ use Rattle.line_tokens.proofs.scan.next_place.Goals as goal
 blank_count : (line : List ℕ) (at n : ℕ) → n ≡ prefix_len is_blank (take (length line - at) (drop at line)) → prefix_len is_blank (drop at line) ≡ n
 blank_count line at n e = sym (e ∙ ap (prefix_len is_blank) (take_rest line at))
 
-none_here : (line : List ℕ) (at n : ℕ) → prefix_len is_blank (drop at line) ≡ n → at + n < length line → FindsLongest (take (length line - (at + n)) (drop (at + n) line)) None → (ps : List Place) → HasPlaces line at ps → ⊥
+none_here : (line : List ℕ) (at n : ℕ) → prefix_len is_blank (drop at line) ≡ n → at + n < length line
+    → FindsLongest (take (length line - (at + n)) (drop (at + n) line)) None → (ps : List Place) → HasPlaces line at ps → ⊥
 none_here line at n e less h =
     let P : ℕ → Type 0 = λ k. at + k < length line → FindsLongest (drop (at + k) line) None → (ps : List Place) → HasPlaces line at ps → ⊥ in
     let Q : List ℕ → Type 0 = λ xs. FindsLongest xs None in
     subst P e (fault_none line at) less (subst Q (take_rest line (at + n)) h)
 
-found_here : (line : List ℕ) (at n k : ℕ) → prefix_len is_blank (drop at line) ≡ n → at + n < length line → IsLongest (take (length line - (at + n)) (drop (at + n) line)) k → IsFirst line at (record { from = at + n; to = at + n + k })
+found_here : (line : List ℕ) (at n k : ℕ) → prefix_len is_blank (drop at line) ≡ n → at + n < length line
+    → IsLongest (take (length line - (at + n)) (drop (at + n) line)) k → IsFirst line at (record { from = at + n; to = at + n + k })
 found_here line at n k e less h =
     let P : ℕ → Type 0 = λ j. at + j < length line → IsLongest (drop (at + j) line) k → IsFirst line at (record { from = at + j; to = at + j + k }) in
     let Q : List ℕ → Type 0 = λ xs. IsLongest xs k in
@@ -25,10 +27,13 @@ found_here line at n k e less h =
 pub returns-then-from-line : goal.returns-then-from-line
 returns-then-from-line c =
     let P : ℕ → Type 0 = λ n. length c.args.line.now ≤ c.args.at + n in
-    end_blank c.args.line.now c.args.at c.requires (subst P (sym (blank_count c.args.line.now c.args.at c.blanks.result c.blanks.ensures.count)) c.if-from-line.true)
+    end_blank c.args.line.now c.args.at c.requires
+    (subst P (sym (blank_count c.args.line.now c.args.at c.blanks.result c.blanks.ensures.count)) c.if-from-line.true)
 
 pub returns-in-None : goal.returns-in-None
-returns-in-None c = none_here c.args.line.now c.args.at c.blanks.result (blank_count c.args.line.now c.args.at c.blanks.result c.blanks.ensures.count) c.if-from-line.false c.in-None.ensures.found
+returns-in-None c = none_here c.args.line.now c.args.at c.blanks.result
+    (blank_count c.args.line.now c.args.at c.blanks.result c.blanks.ensures.count) c.if-from-line.false c.in-None.ensures.found
 
 pub returns-in-Some : goal.returns-in-Some
-returns-in-Some c = found_here c.args.line.now c.args.at c.blanks.result c.in-Some.length (blank_count c.args.line.now c.args.at c.blanks.result c.blanks.ensures.count) c.if-from-line.false c.in-Some.ensures.found
+returns-in-Some c = found_here c.args.line.now c.args.at c.blanks.result c.in-Some.length
+    (blank_count c.args.line.now c.args.at c.blanks.result c.blanks.ensures.count) c.if-from-line.false c.in-Some.ensures.found

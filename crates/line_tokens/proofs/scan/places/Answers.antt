@@ -5,4 +5,5 @@ pub returns-in-End : goal.returns-in-End
 returns-in-End c = scanned_end c.args.line.now c.scan.at c.scan.found.items c.scan.invariant c.in-End.ensures
 
 pub scan-preserved : goal.scan-preserved
-scan-preserved c = rw c.in_ok-push-in-Found.ensures.items (scanned_more c.args.line.now c.scan.at c.scan.found.items c.in-Found.place c.scan.invariant c.in-Found.ensures)
+scan-preserved c = rw c.in_ok-push-in-Found.ensures.items
+    (scanned_more c.args.line.now c.scan.at c.scan.found.items c.in-Found.place c.scan.invariant c.in-Found.ensures)

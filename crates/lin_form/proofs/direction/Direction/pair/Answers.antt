@@ -9,7 +9,9 @@ returns-in-Some-clause-atoms c =
     let k = c.ranges.constant in
     let first = simp to_z-of_z at c.claim-first.ensures.first in
     let second = rw c.in-Some.is at (simp to_z-of_z at c.claim-first.ensures.second) in
-    computed_both c.args.relation (record { coefficients = c.args.self.now; constant = c.args.constant }) (Some c.claim-first.result.first.atom) (Some c.in-Some.literal.atom) c.claim-first.ensures.some first.atom (if_atom _ _ second)
+    computed_both c.args.relation (record { coefficients = c.args.self.now; constant = c.args.constant })
+    (Some c.claim-first.result.first.atom) (Some c.in-Some.literal.atom) c.claim-first.ensures.some first.atom
+    (if_atom _ _ second)
 
 pub returns-in-Some-clause-first : goal.returns-in-Some-clause-first
 returns-in-Some-clause-first c = let k = c.ranges.constant in let first = simp to_z-of_z at c.claim-first.ensures.first in first.atom
@@ -22,14 +24,16 @@ returns-in-Some-clause-width c =
     let k = c.ranges.constant in
     let first = simp to_z-of_z at c.claim-first.ensures.first in
     let second = rw c.in-Some.is at (simp to_z-of_z at c.claim-first.ensures.second) in
-    IsPairOver-made c.args.relation (record { coefficients = c.args.self.now; constant = c.args.constant }) (Some c.claim-first.result.first.atom) (Some c.in-Some.literal.atom) first.atom (if_atom _ _ second)
+    IsPairOver-made c.args.relation (record { coefficients = c.args.self.now; constant = c.args.constant })
+    (Some c.claim-first.result.first.atom) (Some c.in-Some.literal.atom) first.atom (if_atom _ _ second)
 
 pub returns-in-None-clause-atoms : goal.returns-in-None-clause-atoms
 returns-in-None-clause-atoms c =
     let k = c.ranges.constant in
     let first = simp to_z-of_z at c.claim-first.ensures.first in
     let second = rw c.in-None.is at (simp to_z-of_z at c.claim-first.ensures.second) in
-    computed_both c.args.relation (record { coefficients = c.args.self.now; constant = c.args.constant }) (Some c.claim-first.result.first.atom) None c.claim-first.ensures.some first.atom (if_none _ second)
+    computed_both c.args.relation (record { coefficients = c.args.self.now; constant = c.args.constant })
+    (Some c.claim-first.result.first.atom) None c.claim-first.ensures.some first.atom (if_none _ second)
 
 pub returns-in-None-clause-first : goal.returns-in-None-clause-first
 returns-in-None-clause-first c = let k = c.ranges.constant in let first = simp to_z-of_z at c.claim-first.ensures.first in first.atom
@@ -42,4 +46,5 @@ returns-in-None-clause-width c =
     let k = c.ranges.constant in
     let first = simp to_z-of_z at c.claim-first.ensures.first in
     let second = rw c.in-None.is at (simp to_z-of_z at c.claim-first.ensures.second) in
-    IsPairOver-made c.args.relation (record { coefficients = c.args.self.now; constant = c.args.constant }) (Some c.claim-first.result.first.atom) None first.atom (if_none _ second)
+    IsPairOver-made c.args.relation (record { coefficients = c.args.self.now; constant = c.args.constant })
+    (Some c.claim-first.result.first.atom) None first.atom (if_none _ second)
