@@ -1,5 +1,6 @@
 -- Names that are new, found and counted.
-use Rattle.std.proofs.Common.{◌≡◌, ◌≢◌, ℕ, zero, suc, ◌<◌, ◌≤◌, Bool, true, false, cond, ◌||◌, ◌&&◌, not, List, [], ◌∷◌, ◌++◌, length, map, get_or, Option, Some, None, refl, ◌∙◌, arith}
+use Rattle.std.proofs.Common.{◌≡◌, ◌≢◌, ℕ, zero, suc, ◌<◌, ◌≤◌, Bool, true, false, cond, ◌||◌, ◌&&◌, not, List, [], ◌∷◌, ◌++◌, length, map}
+use Rattle.std.proofs.Common.{get_or, Option, Some, None, refl, ◌∙◌, arith}
 use Rattle.std.specs.Prelude.{if◌then◌else◌, ◌==◌, nat_lt, nat_le, int_lt, ℤ, ◌≤ℤ◌, unwrap_or, count_by, AllPairs, Contains}
 use Rattle.std.specs.List.{list_any, position_or_len}
 use Rattle.std.specs.Str.{bytes_eq}
@@ -13,14 +14,20 @@ use Rattle.lin_form.specs.Name.{reserved_words}
 use Rattle.line_forms.specs.declared.keyword.Keyword.{Keyword}
 use Rattle.chart_syntax.specs.declared.error.Refusal.{Refusal}
 use Rattle.line_forms.specs.Lexemes.{keywords, keyword_in}
-use Rattle.chart_syntax.specs.Names.{is_same, is_declared, place_of}
+use Rattle.line_tokens.specs.Limits.{or_else}
+use Rattle.line_checks.specs.declared.scope.NameFault.{NameFault}
+use Rattle.line_checks.specs.Names.{is_same, is_declared, place_of, use_check}
 use Rattle.line_forms.specs.Limits.{IsFree}
-use Rattle.chart_syntax.specs.Collect.{or_else, use_check}
+use Rattle.chart_syntax.specs.Scopes.{told}
 use Rattle.chart_syntax.specs.Checks.{number_of}
 
 pub or_none : (a b : Option Refusal) → or_else a b ≡ None → (a ≡ None) × (b ≡ None)
 or_none None b e = (refl, e)
 or_none (Some r) b e = absurd (cc)
+
+pub told_none : (o : Option NameFault) → told o ≡ None → o ≡ None
+told_none None e = refl
+told_none (Some fault) e = absurd (cc)
 
 pub if_none : (b : Bool) (r : Refusal) → (if b then Some r else None) ≡ None → b ≡ false
 if_none true r e = absurd (cc)
@@ -50,7 +57,8 @@ not_among name names e h = let t : is_declared name names ≡ true = list_any-fr
 pub fresh_at : (name : List ℕ) (names : List (List ℕ)) → is_declared name names ≡ false → (k : ℕ) (d : List ℕ) → k < length names → get_or names k d ≢ name
 fresh_at name names e k d less same = not_among name names e (k, less, get_or_default names k name d less ∙ same)
 
-pub different_push : (names : List (List ℕ)) (name : List ℕ) → AllPairs (λ a b. a ≢ b) names → is_declared name names ≡ false → AllPairs (λ a b. a ≢ b) (names ++ name ∷ [])
+pub different_push : (names : List (List ℕ)) (name : List ℕ) → AllPairs (λ a b. a ≢ b) names → is_declared name names ≡ false
+    → AllPairs (λ a b. a ≢ b) (names ++ name ∷ [])
 different_push names name pairs e = all_pairs_push (λ a b. a ≢ b) names name pairs (fresh_at name names e)
 
 placed_if : (n m : ℕ) (b other : Bool) → nat_lt n m ≡ b → use_check (cond b (Some n) None) other ≡ None → unwrap_or (cond b (Some n) None) 0 < m
@@ -60,7 +68,8 @@ placed_if n m false false e h = absurd (cc)
 
 -- a name that is found has a number below that of all declarations
 pub number_within : (name : List ℕ) (names : List (List ℕ)) (other : Bool) → use_check (place_of name names) other ≡ None → number_of name names < length names
-number_within name names other h = placed_if (position_or_len (is_same name) names) (length names) (nat_lt (position_or_len (is_same name) names) (length names)) other refl h
+number_within name names other h = placed_if (position_or_len (is_same name) names) (length names)
+    (nat_lt (position_or_len (is_same name) names) (length names)) other refl h
 
 pub none_counted : {X : Type 0} (p : X → Bool) (xs : List X) → list_any p xs ≡ false → count_by p xs ≡ 0
 none_counted p [] e = refl
@@ -70,7 +79,8 @@ cond_none : {X : Type 0} (b : Bool) (x : X) (rest : Option X) → cond b (Some x
 cond_none true x rest e = absurd (cc)
 cond_none false x rest e = (refl, e)
 
-not_found : (name : List ℕ) (entries : List (List ℕ × Keyword)) (k : ℕ) (d : List ℕ) → keyword_in entries name ≡ None → k < length (map (λ entry. entry.0) entries) → get_or (map (λ entry. entry.0) entries) k d ≡ name → ⊥
+not_found : (name : List ℕ) (entries : List (List ℕ × Keyword)) (k : ℕ) (d : List ℕ) → keyword_in entries name ≡ None
+    → k < length (map (λ entry. entry.0) entries) → get_or (map (λ entry. entry.0) entries) k d ≡ name → ⊥
 not_found name [] k d none less same = absurd (omega arith)
 not_found name (entry ∷ entries) zero d none less same =
     let h = cond_none (bytes_eq entry.0 name) entry.1 (keyword_in entries name) none in

@@ -1,14 +1,11 @@
-pub mod Sums
+pub mod Actions
 pub mod Fresh
 pub mod Moderate
 pub mod Trees
 pub mod Partial
 pub mod Placing
-pub mod Lines
-pub mod Vectors
 pub mod Joined
 pub mod Whole
 pub mod Same
 pub mod Deciding
 pub mod DecidingWords
-pub mod Adding

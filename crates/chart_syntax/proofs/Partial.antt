@@ -1,5 +1,6 @@
 -- What was declared keeps its promises with each line that passes its checks.
-use Rattle.std.proofs.Common.{◌≡◌, ◌≢◌, ℕ, ◌+◌, ◌*◌, ◌<◌, ◌≤◌, Bool, true, false, ◌||◌, ◌&&◌, not, List, [], ◌∷◌, ◌++◌, length, map, Option, Some, None, refl, sym, ◌∙◌, ap, subst, arith, append_assoc, length-append, mul_assoc}
+use Rattle.std.proofs.Common.{◌≡◌, ◌≢◌, ℕ, ◌+◌, ◌*◌, ◌<◌, ◌≤◌, Bool, true, false, ◌||◌, ◌&&◌, not, List, [], ◌∷◌, ◌++◌, length, map, Option, Some}
+use Rattle.std.proofs.Common.{None, refl, sym, ◌∙◌, ap, subst, arith, append_assoc, length-append, mul_assoc}
 use Rattle.std.specs.Prelude.{nat_lt, nat_le, int_lt, unsigned_abs, AllPairs, slice_get, slice_set, option_map, option_and_then, unwrap_or}
 use Rattle.std.specs.List.{All, list_any}
 use Rattle.std.specs.Option.{ForSome, option_map_or}
@@ -27,15 +28,20 @@ use Rattle.chart_model.specs.declared.action.Action.{Action}
 use Rattle.chart_model.specs.Chart.{IsAssumption, IsGuard}
 use Rattle.chart_syntax.specs.declared.reader.DeclaredState.{DeclaredState}
 use Rattle.chart_syntax.specs.declared.reader.Reader.{Reader}
-use Rattle.chart_syntax.specs.declared.sum.Scope.TheVariants as scope
 use Rattle.chart_syntax.specs.declared.error.Kind.TheVariants as kind
 use Rattle.chart_syntax.specs.declared.error.Which.TheVariants as which
 use Rattle.chart_syntax.specs.declared.error.Refusal.TheVariants.{Fault, Limit}
-use Rattle.chart_syntax.specs.Names.{is_same, is_declared, place_of}
-use Rattle.chart_syntax.specs.Collect.{or_else, use_check, input_names, output_names, memory_names, comparison_of}
-use Rattle.chart_syntax.specs.Checks.{start, state_names, state_check, some_state_check, is_variable, comparisons_check, names_check, range_check, start_check, count_check, limit_check, double_check, when_check, guard_of, actions_check, actions_of, target_check, found_target_check, is_parent, is_child_of, is_outside, is_constant, is_bounded, memory_size, parent_number, depth_under, number_of, declared_state, transition_of, next_statement}
-use Rattle.chart_syntax.specs.Promises.{HasRange, HasSmallValue, HasMemory, HasFew, AreLines, AreActions, IsMove, AreMoves, IsPartial, product_of, variable_names}
-use Rattle.chart_syntax.proofs.Fresh.{or_none, if_none, or_false, below, ordered_range, different_push, number_within}
+use Rattle.line_tokens.specs.Limits.{or_else}
+use Rattle.line_checks.specs.Names.{is_same, is_declared, place_of, use_check}
+use Rattle.line_checks.specs.Guards.{guard_of}
+use Rattle.chart_syntax.specs.Scopes.{input_names, output_names, memory_names, guard_scope, assumption_of}
+use Rattle.chart_syntax.specs.Checks.{start, state_names, state_check, some_state_check, is_variable, comparisons_check, names_check, range_check}
+use Rattle.chart_syntax.specs.Checks.{start_check, count_check, limit_check, double_check, when_check, actions_check, actions_of}
+use Rattle.chart_syntax.specs.Checks.{target_check, found_target_check, is_parent, is_child_of, is_outside, is_constant, is_bounded, memory_size}
+use Rattle.chart_syntax.specs.Checks.{parent_number, depth_under, number_of, declared_state, transition_of, next_statement}
+use Rattle.chart_syntax.specs.inside.Promises.{HasRange, HasSmallValue, HasMemory, HasFew, AreLines, AreActions, IsMove, AreMoves, IsPartial, product_of}
+use Rattle.chart_syntax.specs.inside.Promises.{variable_names}
+use Rattle.chart_syntax.proofs.Fresh.{or_none, told_none, if_none, or_false, below, ordered_range, different_push, number_within}
 use Rattle.chart_syntax.proofs.Moderate.{place_below, good_guard, good_actions, assumption_form, not_constant}
 use Rattle.chart_syntax.proofs.Trees.{states_push, found_at}
 
@@ -65,19 +71,27 @@ no_moves s t e = subst (AreMoves t) (sym e) (All-nil (IsMove (length t.inputs) (
 push_names : {X : Type 0} (f : X → List ℕ) (front : List (List ℕ)) (xs : List X) (x : X) → front ++ map f (xs ++ x ∷ []) ≡ (front ++ map f xs) ++ f x ∷ []
 push_names f front xs x = ap (λ ys. front ++ ys) (map-append f xs (x ∷ [])) ∙ sym (append_assoc front (map f xs) (f x ∷ []))
 
-push_inputs : (s : Reader) (f : InputForm) → s.outputs ≡ [] → s.memories ≡ [] → map (λ form. form.name) (s.inputs ++ f ∷ []) ++ output_names s ++ memory_names s ≡ variable_names s ++ f.name ∷ []
+push_inputs : (s : Reader) (f : InputForm) → s.outputs ≡ [] → s.memories ≡ []
+    → map (λ form. form.name) (s.inputs ++ f ∷ []) ++ output_names s ++ memory_names s ≡ variable_names s ++ f.name ∷ []
 push_inputs s f o m =
-    let P : List OutputForm → List MemoryForm → Type 0 = λ outs mems. map (λ form. form.name) (s.inputs ++ f ∷ []) ++ map (λ form. form.name) outs ++ map (λ form. form.name) mems ≡ (input_names s ++ map (λ form. form.name) outs ++ map (λ form. form.name) mems) ++ f.name ∷ [] in
+    let P : List OutputForm → List MemoryForm → Type 0 = λ outs mems. map (λ form. form.name) (s.inputs ++ f ∷ []) ++ map (λ form. form.name) outs
+    ++ map (λ form. form.name) mems ≡ (input_names s ++ map (λ form. form.name) outs ++ map (λ form. form.name) mems) ++ f.name ∷ [] in
     let all = map (λ (form : InputForm). form.name) (s.inputs ++ f ∷ []) in
     let none : (xs : List (List ℕ)) → xs ++ [] ++ [] ≡ xs = λ xs. append-nil (xs ++ []) ∙ append-nil xs in
-    subst (P s.outputs) (sym m) (subst (λ outs. P outs []) (sym o) (none all ∙ map-append (λ form. form.name) s.inputs (f ∷ []) ∙ ap (λ xs. xs ++ f.name ∷ []) (sym (none (input_names s)))))
+    subst (P s.outputs) (sym m) (subst (λ outs. P outs []) (sym o) (none all ∙ map-append (λ form. form.name) s.inputs (f ∷ [])
+    ∙ ap (λ xs. xs ++ f.name ∷ []) (sym (none (input_names s)))))
 
-push_outputs : (s : Reader) (f : OutputForm) → s.memories ≡ [] → input_names s ++ map (λ form. form.name) (s.outputs ++ f ∷ []) ++ memory_names s ≡ variable_names s ++ f.name ∷ []
+push_outputs : (s : Reader) (f : OutputForm) → s.memories ≡ [] → input_names s ++ map (λ form. form.name) (s.outputs ++ f ∷ []) ++ memory_names s
+    ≡ variable_names s ++ f.name ∷ []
 push_outputs s f m =
-    let P : List MemoryForm → Type 0 = λ mems. input_names s ++ map (λ form. form.name) (s.outputs ++ f ∷ []) ++ map (λ form. form.name) mems ≡ (input_names s ++ output_names s ++ map (λ form. form.name) mems) ++ f.name ∷ [] in
-    subst P (sym m) (append-nil (input_names s ++ map (λ form. form.name) (s.outputs ++ f ∷ [])) ∙ push_names (λ (form : OutputForm). form.name) (input_names s) s.outputs f ∙ ap (λ xs. xs ++ f.name ∷ []) (sym (append-nil (input_names s ++ output_names s))))
+    let P : List MemoryForm → Type 0 = λ mems. input_names s ++ map (λ form. form.name) (s.outputs ++ f ∷ []) ++ map (λ form. form.name) mems
+    ≡ (input_names s ++ output_names s ++ map (λ form. form.name) mems) ++ f.name ∷ [] in
+    subst P (sym m) (append-nil (input_names s ++ map (λ form. form.name) (s.outputs ++ f ∷ []))
+    ∙ push_names (λ (form : OutputForm). form.name) (input_names s) s.outputs f
+    ∙ ap (λ xs. xs ++ f.name ∷ []) (sym (append-nil (input_names s ++ output_names s))))
 
-partial_input : (s : Reader) (f : InputForm) → IsPartial s → s.group ≤ 1 → IsSmallStatement (says.Input f) → names_check s (says.Input f) ≡ None → range_check s (says.Input f) ≡ None → count_check s (says.Input f) ≡ None → IsPartial (next_statement s (says.Input f))
+partial_input : (s : Reader) (f : InputForm) → IsPartial s → s.group ≤ 1 → IsSmallStatement (says.Input f) → names_check s (says.Input f) ≡ None
+    → range_check s (says.Input f) ≡ None → count_check s (says.Input f) ≡ None → IsPartial (next_statement s (says.Input f))
 partial_input s f p early small names range count =
     let t = next_statement s (says.Input f) in
     let outs = p.outputs_later (omega (arith, early)) in
@@ -87,8 +101,26 @@ partial_input s f p early small names range count =
     let few = p.few in
     let same = push_inputs s f outs mems in
     record {
-      few = record { version = few.version; inputs = one_more s.inputs f 6 (below (length s.inputs) 6 (limit_none (nat_le 6 (length s.inputs)) which.Inputs count)); assumed = few.assumed; outputs = few.outputs; memories = few.memories; product = few.product; states = few.states; transitions = few.transitions; entries = few.entries; exits = few.exits };
-      ranges = All-push HasRange s.inputs f p.ranges (record { ordered = ordered_range (value_of f.lo) (value_of f.hi) (if_none (int_lt (value_of f.hi) (value_of f.lo)) (Fault kind.Range) range); low = small_value f.lo small.1; high = small_value f.hi small.2 });
+      few = record {
+        version = few.version;
+        inputs = one_more s.inputs f 6
+            (below (length s.inputs) 6 (limit_none (nat_le 6 (length s.inputs)) which.Inputs count));
+        assumed = few.assumed;
+        outputs = few.outputs;
+        memories = few.memories;
+        product = few.product;
+        states = few.states;
+        transitions = few.transitions;
+        entries = few.entries;
+        exits = few.exits;
+      };
+      ranges = All-push HasRange s.inputs f p.ranges
+          (record {
+            ordered = ordered_range (value_of f.lo) (value_of f.hi)
+                (if_none (int_lt (value_of f.hi) (value_of f.lo)) (Fault kind.Range) range);
+            low = small_value f.lo small.1;
+            high = small_value f.hi small.2;
+          });
       assumptions = subst (All (IsAssumption (length (s.inputs ++ f ∷ [])))) (sym none) (All-nil (IsAssumption (length (s.inputs ++ f ∷ []))));
       values = p.values;
       memories = p.memories;
@@ -107,17 +139,35 @@ partial_input s f p early small names range count =
       actions_last = λ h. record { entries = quiet.entries; exits = quiet.exits; transitions = quiet.transitions };
     }
 
-partial_assumption : (s : Reader) (t : TestForm) → IsPartial s → s.group ≤ 2 → IsSmallStatement (says.Assume t) → t.relation ≢ relation.NotEqual → range_check s (says.Assume t) ≡ None → count_check s (says.Assume t) ≡ None → IsPartial (next_statement s (says.Assume t))
+partial_assumption : (s : Reader) (t : TestForm) → IsPartial s → s.group ≤ 2 → IsSmallStatement (says.Assume t) → t.relation ≢ relation.NotEqual
+    → range_check s (says.Assume t) ≡ None → count_check s (says.Assume t) ≡ None → IsPartial (next_statement s (says.Assume t))
 partial_assumption s t p early small differs range count =
-    let c = comparison_of s scope.Assumption t in
+    let c = assumption_of s t in
     let outs = p.outputs_later early in
     let mems = p.memories_later (omega (arith, early)) in
     let quiet = p.actions_last (omega (arith, early)) in
     let few = p.few in
     record {
-      few = record { version = few.version; inputs = few.inputs; assumed = one_more s.assumed c 16 (below (length s.assumed) 16 (limit_none (nat_le 16 (length s.assumed)) which.Assumptions count)); outputs = few.outputs; memories = few.memories; product = few.product; states = few.states; transitions = few.transitions; entries = few.entries; exits = few.exits };
+      few = record {
+        version = few.version;
+        inputs = few.inputs;
+        assumed = one_more s.assumed c 16
+            (below (length s.assumed) 16 (limit_none (nat_le 16 (length s.assumed)) which.Assumptions count));
+        outputs = few.outputs;
+        memories = few.memories;
+        product = few.product;
+        states = few.states;
+        transitions = few.transitions;
+        entries = few.entries;
+        exits = few.exits;
+      };
       ranges = p.ranges;
-      assumptions = All-push (IsAssumption (length s.inputs)) s.assumed c p.assumptions (record { form = assumption_form s t few small; varies = not_constant c.form.inputs (if_none (is_constant c) (Fault kind.Range) range); relation = differs });
+      assumptions = All-push (IsAssumption (length s.inputs)) s.assumed c p.assumptions
+          (record {
+            form = assumption_form s t few small;
+            varies = not_constant c.form.inputs (if_none (is_constant c) (Fault kind.Range) range);
+            relation = differs;
+          });
       values = p.values;
       memories = p.memories;
       product = p.product;
@@ -135,7 +185,8 @@ partial_assumption s t p early small differs range count =
       actions_last = λ h. record { entries = quiet.entries; exits = quiet.exits; transitions = quiet.transitions };
     }
 
-partial_output : (s : Reader) (f : OutputForm) → IsPartial s → s.group ≤ 3 → IsSmallStatement (says.Output f) → names_check s (says.Output f) ≡ None → count_check s (says.Output f) ≡ None → IsPartial (next_statement s (says.Output f))
+partial_output : (s : Reader) (f : OutputForm) → IsPartial s → s.group ≤ 3 → IsSmallStatement (says.Output f)
+    → names_check s (says.Output f) ≡ None → count_check s (says.Output f) ≡ None → IsPartial (next_statement s (says.Output f))
 partial_output s f p early small names count =
     let t = next_statement s (says.Output f) in
     let mems = p.memories_later early in
@@ -143,7 +194,18 @@ partial_output s f p early small names count =
     let few = p.few in
     let same = push_outputs s f mems in
     record {
-      few = record { version = few.version; inputs = few.inputs; assumed = few.assumed; outputs = one_more s.outputs f 8 (below (length s.outputs) 8 (limit_none (nat_le 8 (length s.outputs)) which.Outputs count)); memories = few.memories; product = few.product; states = few.states; transitions = few.transitions; entries = few.entries; exits = few.exits };
+      few = record {
+        version = few.version;
+        inputs = few.inputs;
+        assumed = few.assumed;
+        outputs = one_more s.outputs f 8 (below (length s.outputs) 8 (limit_none (nat_le 8 (length s.outputs)) which.Outputs count));
+        memories = few.memories;
+        product = few.product;
+        states = few.states;
+        transitions = few.transitions;
+        entries = few.entries;
+        exits = few.exits;
+      };
       ranges = p.ranges;
       assumptions = p.assumptions;
       values = All-push HasSmallValue s.outputs f p.values (small_value f.value small.1);
@@ -181,24 +243,46 @@ at_most n m e = grind (arith, nat_tests)
 at_most_not : (n m : ℕ) → nat_lt m n ≡ false → n ≤ m
 at_most_not n m e = grind (arith, nat_tests)
 
-partial_memory : (s : Reader) (f : MemoryForm) → IsPartial s → s.group ≤ 4 → IsSmallStatement (says.Memory f) → names_check s (says.Memory f) ≡ None → range_check s (says.Memory f) ≡ None → count_check s (says.Memory f) ≡ None → IsPartial (next_statement s (says.Memory f))
+partial_memory : (s : Reader) (f : MemoryForm) → IsPartial s → s.group ≤ 4 → IsSmallStatement (says.Memory f)
+    → names_check s (says.Memory f) ≡ None → range_check s (says.Memory f) ≡ None → count_check s (says.Memory f) ≡ None
+    → IsPartial (next_statement s (says.Memory f))
 partial_memory s f p early small names range count =
     let t = next_statement s (says.Memory f) in
     let quiet = p.actions_last (omega (arith, early)) in
     let few = p.few in
     let same = push_names (λ (form : MemoryForm). form.name) (input_names s ++ output_names s) s.memories f in
     let outside = if_none (is_outside f) (Fault kind.Range) range in
-    let a = or_false (int_lt (value_of f.hi) (value_of f.lo) || int_lt (value_of f.value) (value_of f.lo)) (int_lt (value_of f.hi) (value_of f.value)) outside in
+    let a = or_false (int_lt (value_of f.hi) (value_of f.lo) || int_lt (value_of f.value) (value_of f.lo))
+    (int_lt (value_of f.hi) (value_of f.value)) outside in
     let b = or_false (int_lt (value_of f.hi) (value_of f.lo)) (int_lt (value_of f.value) (value_of f.lo)) a.0 in
-    let x = or_none (limit_check (nat_le 4 (length s.memories)) which.Memories) (or_else (limit_check (not (is_bounded f)) which.Bound) (limit_check (nat_lt 256 (s.product * memory_size f)) which.Product)) count in
+    let x = or_none (limit_check (nat_le 4 (length s.memories)) which.Memories)
+    (or_else (limit_check (not (is_bounded f)) which.Bound) (limit_check (nat_lt 256 (s.product * memory_size f)) which.Product)) count in
     let y = or_none (limit_check (not (is_bounded f)) which.Bound) (limit_check (nat_lt 256 (s.product * memory_size f)) which.Product) x.1 in
-    let z = both_true (nat_le (unsigned_abs (value_of f.lo)) 1000) (nat_le (unsigned_abs (value_of f.hi)) 1000) (not_true (is_bounded f) (limit_none (not (is_bounded f)) which.Bound y.0)) in
+    let z = both_true (nat_le (unsigned_abs (value_of f.lo)) 1000) (nat_le (unsigned_abs (value_of f.hi)) 1000)
+    (not_true (is_bounded f) (limit_none (not (is_bounded f)) which.Bound y.0)) in
     record {
-      few = record { version = few.version; inputs = few.inputs; assumed = few.assumed; outputs = few.outputs; memories = one_more s.memories f 4 (below (length s.memories) 4 (limit_none (nat_le 4 (length s.memories)) which.Memories x.0)); product = at_most_not (s.product * memory_size f) 256 (limit_none (nat_lt 256 (s.product * memory_size f)) which.Product y.1); states = few.states; transitions = few.transitions; entries = few.entries; exits = few.exits };
+      few = record {
+        version = few.version;
+        inputs = few.inputs;
+        assumed = few.assumed;
+        outputs = few.outputs;
+        memories = one_more s.memories f 4 (below (length s.memories) 4 (limit_none (nat_le 4 (length s.memories)) which.Memories x.0));
+        product = at_most_not (s.product * memory_size f) 256 (limit_none (nat_lt 256 (s.product * memory_size f)) which.Product y.1);
+        states = few.states;
+        transitions = few.transitions;
+        entries = few.entries;
+        exits = few.exits;
+      };
       ranges = p.ranges;
       assumptions = p.assumptions;
       values = p.values;
-      memories = All-push HasMemory s.memories f p.memories (record { low = at_most (unsigned_abs (value_of f.lo)) 1000 z.0; high = at_most (unsigned_abs (value_of f.hi)) 1000 z.1; above = ordered_range (value_of f.lo) (value_of f.value) b.1; below = ordered_range (value_of f.value) (value_of f.hi) a.1 });
+      memories = All-push HasMemory s.memories f p.memories
+          (record {
+            low = at_most (unsigned_abs (value_of f.lo)) 1000 z.0;
+            high = at_most (unsigned_abs (value_of f.hi)) 1000 z.1;
+            above = ordered_range (value_of f.lo) (value_of f.value) b.1;
+            below = ordered_range (value_of f.value) (value_of f.hi) a.1;
+          });
       product = ap (λ n. n * memory_size f) p.product ∙ sym (product_push s.memories f);
       free = subst (All IsFree) (sym same) (All-push IsFree (variable_names s) f.name p.free small.free);
       different = subst (AllPairs (λ a b. a ≢ b)) (sym same) (different_push (variable_names s) f.name p.different (new_name s f.name names));
@@ -219,15 +303,21 @@ parent_below s None parent e = absurd (cc)
 parent_below s (Some name) parent e = let h = place_below name (state_names s) parent e in subst (λ n. parent < n) (length-map s.states (λ state. state.name)) h
 
 -- the depth of a new state follows from its parent's
-new_depth : (s : Reader) (parent : Option ℕ) → ((k : ℕ) → parent ≡ Some k → k < length s.states) → ForSome parent (λ k. (above : DeclaredState) × (slice_get s.states k ≡ Some above) × (depth_under s parent ≡ above.depth + 1))
+new_depth : (s : Reader) (parent : Option ℕ) → ((k : ℕ) → parent ≡ Some k → k < length s.states)
+    → ForSome parent (λ k. (above : DeclaredState) × (slice_get s.states k ≡ Some above) × (depth_under s parent ≡ above.depth + 1))
 new_depth s parent h = λ k e.
-    let found = found_at s.states k (h k e) in
-    (found.0, found.1, ap (λ o. option_map_or (λ (above : DeclaredState). above.depth) (option_and_then (slice_get s.states) o) 0 + 1) e ∙ ap (λ o. option_map_or (λ (above : DeclaredState). above.depth) o 0 + 1) found.1)
+    let found = found_at s.states k (h k e) in (
+      found.0,
+      found.1,
+      ap (λ o. option_map_or (λ (above : DeclaredState). above.depth) (option_and_then (slice_get s.states) o) 0 + 1) e
+          ∙ ap (λ o. option_map_or (λ (above : DeclaredState). above.depth) o 0 + 1) found.1,
+    )
 
 all_none : (lines : List (Option (List Action))) → All (λ line. line ≡ None) lines → All (λ line. line ≡ None) (lines ++ None ∷ [])
 all_none lines h = All-push (λ (line : Option (List Action)). line ≡ None) lines None h refl
 
-partial_state : (s : Reader) (f : StateForm) → IsPartial s → s.group ≤ 5 → IsSmallStatement (says.State f) → names_check s (says.State f) ≡ None → start_check s (says.State f) ≡ None → count_check s (says.State f) ≡ None → IsPartial (next_statement s (says.State f))
+partial_state : (s : Reader) (f : StateForm) → IsPartial s → s.group ≤ 5 → IsSmallStatement (says.State f) → names_check s (says.State f) ≡ None
+    → start_check s (says.State f) ≡ None → count_check s (says.State f) ≡ None → IsPartial (next_statement s (says.State f))
 partial_state s f p early small names begins count =
     let t = next_statement s (says.State f) in
     let x = declared_state s f in
@@ -236,7 +326,8 @@ partial_state s f p early small names begins count =
     let same = map-append (λ (state : DeclaredState). state.name) s.states (x ∷ []) in
     let a = or_none (double_check (is_declared f.name (state_names s))) (some_state_check s f.parent) names in
     let new = if_none (is_declared f.name (state_names s)) (Fault kind.Double) a.0 in
-    let b = or_none (limit_check (nat_le 64 (length s.states)) which.States) (limit_check (nat_lt 8 (depth_under s (parent_number s f.parent))) which.Depth) count in
+    let b = or_none (limit_check (nat_le 64 (length s.states)) which.States)
+    (limit_check (nat_lt 8 (depth_under s (parent_number s f.parent))) which.Depth) count in
     let below_all = parent_below s f.parent in
     let entries = all_none s.entries quiet.entries in
     let exits = all_none s.exits quiet.exits in
@@ -246,7 +337,19 @@ partial_state s f p early small names begins count =
     let e = few.entries in
     let d = few.exits in
     record {
-      few = record { version = few.version; inputs = few.inputs; assumed = few.assumed; outputs = few.outputs; memories = few.memories; product = few.product; states = one_more s.states x 64 (below (length s.states) 64 (limit_none (nat_le 64 (length s.states)) which.States b.0)); transitions = few.transitions; entries = omega (arith, n, k, e); exits = omega (arith, m, k, d) };
+      few = record {
+        version = few.version;
+        inputs = few.inputs;
+        assumed = few.assumed;
+        outputs = few.outputs;
+        memories = few.memories;
+        product = few.product;
+        states = one_more s.states x 64
+            (below (length s.states) 64 (limit_none (nat_le 64 (length s.states)) which.States b.0));
+        transitions = few.transitions;
+        entries = omega (arith, n, k, e);
+        exits = omega (arith, m, k, d);
+      };
       ranges = p.ranges;
       assumptions = p.assumptions;
       values = p.values;
@@ -256,7 +359,13 @@ partial_state s f p early small names begins count =
       different = p.different;
       free_states = subst (All IsFree) (sym same) (All-push IsFree (state_names s) f.name p.free_states small);
       different_states = subst (AllPairs (λ a b. a ≢ b)) (sym same) (different_push (state_names s) f.name p.different_states new);
-      tree = states_push s.states x p.tree below_all (at_most_not (depth_under s (parent_number s f.parent)) 8 (limit_none (nat_lt 8 (depth_under s (parent_number s f.parent))) which.Depth b.1), omega arith, new_depth s (parent_number s f.parent) below_all) begins;
+      tree = states_push s.states x p.tree below_all (
+        at_most_not (depth_under s (parent_number s f.parent)) 8
+            (limit_none (nat_lt 8 (depth_under s (parent_number s f.parent))) which.Depth b.1),
+        omega arith,
+        new_depth s
+            (parent_number s f.parent) below_all,
+      ) begins;
       entries = no_lines t (s.entries ++ None ∷ []) entries;
       exits = no_lines t (s.exits ++ None ∷ []) exits;
       moves = no_moves s t quiet.transitions;
@@ -269,19 +378,34 @@ partial_state s f p early small names begins count =
 some_same : {X : Type 0} (a b : X) → Some a ≡ Some b → a ≡ b
 some_same a b e = cc
 
-good_line : (s : Reader) (actions : List Action) → AreActions (length s.inputs) (length s.memories) (length s.outputs) actions → ForSome (Some actions) (AreActions (length s.inputs) (length s.memories) (length s.outputs))
+good_line : (s : Reader) (actions : List Action) → AreActions (length s.inputs) (length s.memories) (length s.outputs) actions
+    → ForSome (Some actions) (AreActions (length s.inputs) (length s.memories) (length s.outputs))
 good_line s actions h = λ xs e. subst (AreActions (length s.inputs) (length s.memories) (length s.outputs)) (some_same actions xs e) h
 
-new_lines : (s : Reader) (lines : List (Option (List Action))) (k : ℕ) (f : ActionsForm) → HasFew s → AreLines s lines → All IsSmallAction f.actions → actions_check s f.actions ≡ None → AreLines s (slice_set lines k (Some (actions_of s f.actions)))
-new_lines s lines k f few kept small passes = All-set (λ line. ForSome line (AreActions (length s.inputs) (length s.memories) (length s.outputs))) lines k (Some (actions_of s f.actions)) (good_line s (actions_of s f.actions) (good_actions s f.actions few small passes)) kept
+new_lines : (s : Reader) (lines : List (Option (List Action))) (k : ℕ) (f : ActionsForm) → HasFew s → AreLines s lines
+    → All IsSmallAction f.actions → actions_check s f.actions ≡ None → AreLines s (slice_set lines k (Some (actions_of s f.actions)))
+new_lines s lines k f few kept small passes = All-set (λ line. ForSome line (AreActions (length s.inputs) (length s.memories) (length s.outputs)))
+    lines k (Some (actions_of s f.actions)) (good_line s (actions_of s f.actions) (good_actions s f.actions few small passes)) kept
 
-partial_entry : (s : Reader) (f : ActionsForm) → IsPartial s → IsSmallStatement (says.Entry f) → names_check s (says.Entry f) ≡ None → IsPartial (next_statement s (says.Entry f))
+partial_entry : (s : Reader) (f : ActionsForm) → IsPartial s → IsSmallStatement (says.Entry f) → names_check s (says.Entry f) ≡ None
+    → IsPartial (next_statement s (says.Entry f))
 partial_entry s f p small names =
     let k = number_of f.state (state_names s) in
     let few = p.few in
     let a = or_none (state_check s f.state) (actions_check s f.actions) names in
     record {
-      few = record { version = few.version; inputs = few.inputs; assumed = few.assumed; outputs = few.outputs; memories = few.memories; product = few.product; states = few.states; transitions = few.transitions; entries = length-set s.entries k (Some (actions_of s f.actions)) ∙ few.entries; exits = few.exits };
+      few = record {
+        version = few.version;
+        inputs = few.inputs;
+        assumed = few.assumed;
+        outputs = few.outputs;
+        memories = few.memories;
+        product = few.product;
+        states = few.states;
+        transitions = few.transitions;
+        entries = length-set s.entries k (Some (actions_of s f.actions)) ∙ few.entries;
+        exits = few.exits;
+      };
       ranges = p.ranges;
       assumptions = p.assumptions;
       values = p.values;
@@ -301,13 +425,25 @@ partial_entry s f p small names =
       actions_last = λ h. absurd (omega (arith, h));
     }
 
-partial_exit : (s : Reader) (f : ActionsForm) → IsPartial s → IsSmallStatement (says.Exit f) → names_check s (says.Exit f) ≡ None → IsPartial (next_statement s (says.Exit f))
+partial_exit : (s : Reader) (f : ActionsForm) → IsPartial s → IsSmallStatement (says.Exit f) → names_check s (says.Exit f) ≡ None
+    → IsPartial (next_statement s (says.Exit f))
 partial_exit s f p small names =
     let k = number_of f.state (state_names s) in
     let few = p.few in
     let a = or_none (state_check s f.state) (actions_check s f.actions) names in
     record {
-      few = record { version = few.version; inputs = few.inputs; assumed = few.assumed; outputs = few.outputs; memories = few.memories; product = few.product; states = few.states; transitions = few.transitions; entries = few.entries; exits = length-set s.exits k (Some (actions_of s f.actions)) ∙ few.exits };
+      few = record {
+        version = few.version;
+        inputs = few.inputs;
+        assumed = few.assumed;
+        outputs = few.outputs;
+        memories = few.memories;
+        product = few.product;
+        states = few.states;
+        transitions = few.transitions;
+        entries = few.entries;
+        exits = length-set s.exits k (Some (actions_of s f.actions)) ∙ few.exits;
+      };
       ranges = p.ranges;
       assumptions = p.assumptions;
       values = p.values;
@@ -327,12 +463,16 @@ partial_exit s f p small names =
       actions_last = λ h. absurd (omega (arith, h));
     }
 
-number_below : (s : Reader) (name : List ℕ) (misused : Bool) → use_check (place_of name (state_names s)) misused ≡ None → number_of name (state_names s) < length s.states
-number_below s name misused h = let less = number_within name (state_names s) misused h in subst (λ n. number_of name (state_names s) < n) (length-map s.states (λ state. state.name)) less
+number_below : (s : Reader) (name : List ℕ) (misused : Bool) → use_check (place_of name (state_names s)) misused ≡ None
+    → number_of name (state_names s) < length s.states
+number_below s name misused h = let less = number_within name (state_names s) misused h in
+    subst (λ n. number_of name (state_names s) < n) (length-map s.states (λ state. state.name)) less
 
-good_when : (s : Reader) (g : Option written.Tree) → HasFew s → ForSome g IsSmallGuard → nat_lt 64 (option_map_or written.tests_of g 0) ≡ false → ForSome (option_map (guard_of s) g) (λ guard. IsGuard (length s.inputs) (length s.memories) guard)
+good_when : (s : Reader) (g : Option written.Tree) → HasFew s → ForSome g IsSmallGuard → nat_lt 64 (option_map_or written.tests_of g 0) ≡ false
+    → ForSome (option_map (guard_of (guard_scope s) (length s.inputs)) g) (λ guard. IsGuard (length s.inputs) (length s.memories) guard)
 good_when s None few small tests = λ x e. absurd (cc)
-good_when s (Some g) few small tests = λ x e. subst (IsGuard (length s.inputs) (length s.memories)) (some_same (guard_of s g) x e) (good_guard s g few (small g refl) (at_most_not (written.tests_of g) 64 tests))
+good_when s (Some g) few small tests = λ x e. subst (IsGuard (length s.inputs) (length s.memories)) (some_same (guard_of (guard_scope s) (length s.inputs) g) x e)
+    (good_guard s g few (small g refl) (at_most_not (written.tests_of g) 64 tests))
 
 parent_if : (history parent : Bool) → history ≡ true → (history && not parent) ≡ false → parent ≡ true
 parent_if true true t e = refl
@@ -340,14 +480,16 @@ parent_if true false t e = absurd (cc)
 parent_if false parent t e = absurd (cc)
 
 -- a target that passes its check is a state, and one with children where history is asked
-target_if : (s : Reader) (o : Option ℕ) (history : Bool) → found_target_check s o history ≡ None → (k : ℕ) × (o ≡ Some k) × (history ≡ true → is_parent s k ≡ true)
+target_if : (s : Reader) (o : Option ℕ) (history : Bool) → found_target_check s o history ≡ None
+    → (k : ℕ) × (o ≡ Some k) × (history ≡ true → is_parent s k ≡ true)
 target_if s None history h = absurd (cc)
 target_if s (Some k) history h = (k, refl, λ t. parent_if history (is_parent s k) t (if_none (history && not (is_parent s k)) (Fault kind.Misuse) h))
 
 found_number : (o : Option ℕ) (k : ℕ) → o ≡ Some k → unwrap_or o 0 ≡ k
 found_number o k e = ap (λ p. unwrap_or p 0) e
 
-good_target : (s : Reader) (name : Option (List ℕ)) (history : Bool) → target_check s name history ≡ None → ForSome (option_map (λ target. number_of target (state_names s)) name) (λ target. target < length s.states)
+good_target : (s : Reader) (name : Option (List ℕ)) (history : Bool) → target_check s name history ≡ None
+    → ForSome (option_map (λ target. number_of target (state_names s)) name) (λ target. target < length s.states)
 good_target s None history h = λ x e. absurd (cc)
 good_target s (Some name) history h =
     let t = target_if s (place_of name (state_names s)) history h in
@@ -356,14 +498,18 @@ good_target s (Some name) history h =
     let below_all : t.0 < length s.states = subst (λ m. t.0 < m) (length-map s.states (λ state. state.name)) less in
     λ x e. subst (λ m. m < length s.states) (some_same (number_of name (state_names s)) x e) (subst (λ m. m < length s.states) (sym n) below_all)
 
-good_history : (s : Reader) (name : Option (List ℕ)) (history : Bool) → target_check s name history ≡ None → (name ≡ None → history ≡ false) → history ≡ true → option_map_or (λ target. list_any (is_child_of target) s.states) (option_map (λ target. number_of target (state_names s)) name) false ≡ true
+good_history : (s : Reader) (name : Option (List ℕ)) (history : Bool) → target_check s name history ≡ None → (name ≡ None → history ≡ false)
+    → history ≡ true → option_map_or (λ target. list_any (is_child_of target) s.states)
+    (option_map (λ target. number_of target (state_names s)) name) false ≡ true
 good_history s None history h alone t = let f = alone refl in absurd (cc)
 good_history s (Some name) history h alone t =
     let found = target_if s (place_of name (state_names s)) history h in
     let n = found_number (place_of name (state_names s)) found.0 found.1 in
     subst (λ k. list_any (is_child_of k) s.states ≡ true) (sym n) (found.2 t)
 
-partial_on : (s : Reader) (f : OnForm) → IsPartial s → IsSmallStatement (says.On f) → (f.target ≡ None → f.history ≡ false) → comparisons_check s (says.On f) ≡ None → names_check s (says.On f) ≡ None → count_check s (says.On f) ≡ None → IsPartial (next_statement s (says.On f))
+partial_on : (s : Reader) (f : OnForm) → IsPartial s → IsSmallStatement (says.On f) → (f.target ≡ None → f.history ≡ false)
+    → comparisons_check s (says.On f) ≡ None → names_check s (says.On f) ≡ None → count_check s (says.On f) ≡ None
+    → IsPartial (next_statement s (says.On f))
 partial_on s f p small alone comparisons names count =
     let few = p.few in
     let rest = or_else (actions_check s f.effect) (target_check s f.target f.history) in
@@ -372,14 +518,26 @@ partial_on s f p small alone comparisons names count =
     let d = or_none (actions_check s f.effect) (target_check s f.target f.history) b.1 in
     let tests = if_none (nat_lt 64 (option_map_or written.tests_of f.guard 0)) (Limit which.Comparisons) comparisons in
     let move : IsMove (length s.inputs) (length s.memories) (length s.outputs) s.states (transition_of s f) = record {
-      source = number_below s f.source false a.0;
+      source = number_below s f.source false (told_none (use_check (place_of f.source (state_names s)) false) a.0);
       guard = good_when s f.guard few small.guard tests;
       effect = good_actions s f.effect few small.effect d.0;
       target = good_target s f.target f.history d.1;
       history = good_history s f.target f.history d.1 alone;
     } in
     record {
-      few = record { version = few.version; inputs = few.inputs; assumed = few.assumed; outputs = few.outputs; memories = few.memories; product = few.product; states = few.states; transitions = one_more s.transitions (transition_of s f) 256 (below (length s.transitions) 256 (limit_none (nat_le 256 (length s.transitions)) which.Transitions count)); entries = few.entries; exits = few.exits };
+      few = record {
+        version = few.version;
+        inputs = few.inputs;
+        assumed = few.assumed;
+        outputs = few.outputs;
+        memories = few.memories;
+        product = few.product;
+        states = few.states;
+        transitions = one_more s.transitions (transition_of s f) 256
+            (below (length s.transitions) 256 (limit_none (nat_le 256 (length s.transitions)) which.Transitions count));
+        entries = few.entries;
+        exits = few.exits;
+      };
       ranges = p.ranges;
       assumptions = p.assumptions;
       values = p.values;
@@ -403,7 +561,18 @@ partial_chart : (s : Reader) (n : ℕ) → IsPartial s → n ≤ 3 → IsPartial
 partial_chart s n p small =
     let few = p.few in
     record {
-      few = record { version = small; inputs = few.inputs; assumed = few.assumed; outputs = few.outputs; memories = few.memories; product = few.product; states = few.states; transitions = few.transitions; entries = few.entries; exits = few.exits };
+      few = record {
+        version = small;
+        inputs = few.inputs;
+        assumed = few.assumed;
+        outputs = few.outputs;
+        memories = few.memories;
+        product = few.product;
+        states = few.states;
+        transitions = few.transitions;
+        entries = few.entries;
+        exits = few.exits;
+      };
       ranges = p.ranges;
       assumptions = p.assumptions;
       values = p.values;
@@ -435,7 +604,9 @@ IsPlaced s (says.Entry f) = Unit {0}
 IsPlaced s (says.Exit f) = Unit {0}
 IsPlaced s (says.On f) = f.target ≡ None → f.history ≡ false
 
-pub partial_statement : (s : Reader) (said : Statement) → IsPartial s → IsPlaced s said → IsSmallStatement said → comparisons_check s said ≡ None → names_check s said ≡ None → range_check s said ≡ None → start_check s said ≡ None → count_check s said ≡ None → IsPartial (next_statement s said)
+pub partial_statement : (s : Reader) (said : Statement) → IsPartial s → IsPlaced s said → IsSmallStatement said → comparisons_check s said ≡ None
+    → names_check s said ≡ None → range_check s said ≡ None → start_check s said ≡ None → count_check s said ≡ None
+    → IsPartial (next_statement s said)
 partial_statement s (says.Chart n) p placed small comparisons names range begins count = partial_chart s n p placed
 partial_statement s (says.Input f) p placed small comparisons names range begins count = partial_input s f p placed small names range count
 partial_statement s (says.Assume t) p placed small comparisons names range begins count = partial_assumption s t p placed.0 small placed.1 range count
@@ -448,7 +619,18 @@ partial_statement s (says.On f) p placed small comparisons names range begins co
 
 pub partial_start : IsPartial start
 partial_start = record {
-  few = record { version = omega arith; inputs = omega arith; assumed = omega arith; outputs = omega arith; memories = omega arith; product = omega arith; states = omega arith; transitions = omega arith; entries = refl; exits = refl };
+  few = record {
+    version = omega arith;
+    inputs = omega arith;
+    assumed = omega arith;
+    outputs = omega arith;
+    memories = omega arith;
+    product = omega arith;
+    states = omega arith;
+    transitions = omega arith;
+    entries = refl;
+    exits = refl;
+  };
   ranges = All-nil HasRange;
   assumptions = All-nil (IsAssumption 0);
   values = All-nil HasSmallValue;

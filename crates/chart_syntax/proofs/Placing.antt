@@ -15,18 +15,24 @@ use Rattle.chart_syntax.specs.declared.reader.Reader.{Reader}
 use Rattle.chart_syntax.specs.declared.error.Kind.TheVariants as kind
 use Rattle.chart_syntax.specs.declared.error.Refusal.{Refusal}
 use Rattle.chart_syntax.specs.declared.error.Refusal.TheVariants.{Fault}
-use Rattle.chart_syntax.specs.declared.error.LineError.{LineError}
-use Rattle.chart_syntax.specs.Collect.{or_else}
-use Rattle.chart_syntax.specs.Checks.{first_of, checks, version_check, word_check, line_check, order_check, form_check, comparisons_check, names_check, range_check, start_check, count_check, next_form, next, Takes}
-use Rattle.chart_syntax.specs.Promises.{IsPartial}
+use Rattle.text_lines.specs.declared.read.LineError.{LineError}
+use Rattle.line_tokens.specs.Limits.{or_else}
+use Rattle.chart_syntax.specs.Checks.{first_of, checks, version_check, word_check, line_check, order_check, form_check, comparisons_check}
+use Rattle.chart_syntax.specs.Checks.{names_check, range_check, start_check, count_check, next_form, next}
+use Rattle.chart_syntax.specs.inside.Answers.{Takes}
+use Rattle.chart_syntax.specs.inside.Promises.{IsPartial}
 use Rattle.chart_syntax.proofs.Fresh.{or_none, if_none}
 use Rattle.chart_syntax.proofs.Partial.{IsPlaced, partial_statement}
 
 -- the checks of a line's first word, by its group
 abbrev heads : ℕ → Bool → ℕ → ℕ → Option Refusal
-heads version stated m group = or_else (if version == 0 && not stated then Some (Fault kind.Version) else None) (or_else (if not (version == 0) && m == 0 then Some (Fault kind.NoSuchLine) else None) (if not (version == 0) && nat_lt m group then Some (Fault kind.Misplaced) else None))
+heads version stated m group = or_else (if version == 0 && not stated then Some (Fault kind.Version) else None)
+    (or_else (if not (version == 0) && m == 0 then Some (Fault kind.NoSuchLine) else None)
+    (if not (version == 0) && nat_lt m group then Some (Fault kind.Misplaced) else None))
 
-order_if : (b : Bool) (m group : ℕ) → or_else (if b && true then Some (Fault kind.Version) else None) (or_else (if not b && m == 0 then Some (Fault kind.NoSuchLine) else None) (if not b && nat_lt m group then Some (Fault kind.Misplaced) else None)) ≡ None → group ≤ m
+order_if : (b : Bool) (m group : ℕ) → or_else (if b && true then Some (Fault kind.Version) else None)
+    (or_else (if not b && m == 0 then Some (Fault kind.NoSuchLine) else None)
+    (if not b && nat_lt m group then Some (Fault kind.Misplaced) else None)) ≡ None → group ≤ m
 order_if true m group e = absurd (cc)
 order_if false m group e =
     let h = or_none (if m == 0 then Some (Fault kind.NoSuchLine) else None) (if nat_lt m group then Some (Fault kind.Misplaced) else None) e in
@@ -37,7 +43,9 @@ order_if false m group e =
 in_order : (version m group : ℕ) → heads version false m group ≡ None → group ≤ m
 in_order version m group e = order_if (version == 0) m group e
 
-stated_if : (b : Bool) (stated : Bool) (group : ℕ) → or_else (if b && not stated then Some (Fault kind.Version) else None) (or_else (if not b && true then Some (Fault kind.NoSuchLine) else None) (if not b && nat_lt 0 group then Some (Fault kind.Misplaced) else None)) ≡ None → stated ≡ true
+stated_if : (b : Bool) (stated : Bool) (group : ℕ) → or_else (if b && not stated then Some (Fault kind.Version) else None)
+    (or_else (if not b && true then Some (Fault kind.NoSuchLine) else None) (if not b && nat_lt 0 group then Some (Fault kind.Misplaced)
+    else None)) ≡ None → stated ≡ true
 stated_if true true group e = refl
 stated_if true false group e = absurd (cc)
 stated_if false stated group e = absurd (cc)
@@ -66,11 +74,15 @@ head_check s l = or_else (version_check s.version l.form) (or_else (word_check s
 heads_pass : (s : Reader) (l : Sighted) → line_check s l ≡ None → order_check s l ≡ None → head_check s l ≡ None
 heads_pass s l e h = let a = or_none (version_check s.version l.form) (word_check s.version l.head) e in rw (a.0, a.1, h) refl
 
-by_head : (s : Reader) (ts : List Lexeme) (said : Statement) (k : Keyword) → reserved_at ts 0 ≡ Some k → head_check s (record { head = reserved_at ts 0; form = Some said }) ≡ None → head_check s (record { head = Some k; form = Some said }) ≡ None
+by_head : (s : Reader) (ts : List Lexeme) (said : Statement) (k : Keyword) → reserved_at ts 0 ≡ Some k
+    → head_check s (record { head = reserved_at ts 0; form = Some said }) ≡ None
+    → head_check s (record { head = Some k; form = Some said }) ≡ None
 by_head s ts said k e h = subst (λ o. head_check s (record { head = o; form = Some said }) ≡ None) e h
 
-pub placed : (s : Reader) (ts : List Lexeme) (said : Statement) → IsStatement ts said → head_check s (record { head = reserved_at ts 0; form = Some said }) ≡ None → IsPlaced s said
-placed s ts (says.Chart n) h e = small_version n (stated_if (s.version == 0) (n == 1 || n == 2 || n == 3) s.group (by_head s ts (says.Chart n) keyword.Chart (ap reserved_in h.0) e))
+pub placed : (s : Reader) (ts : List Lexeme) (said : Statement) → IsStatement ts said
+    → head_check s (record { head = reserved_at ts 0; form = Some said }) ≡ None → IsPlaced s said
+placed s ts (says.Chart n) h e = small_version n (stated_if (s.version == 0) (n == 1 || n == 2 || n == 3) s.group
+    (by_head s ts (says.Chart n) keyword.Chart (ap reserved_in h.0) e))
 placed s ts (says.Input f) h e = in_order s.version 1 s.group (by_head s ts (says.Input f) keyword.Input (ap reserved_in h.0) e)
 placed s ts (says.Assume t) h e =
     let o = in_order s.version (if s.version == 1 then 0 else 2) s.group (by_head s ts (says.Assume t) keyword.Assume (ap reserved_in h.0) e) in
@@ -87,7 +99,9 @@ after_last : (a : Option Refusal) → or_else a None ≡ None → a ≡ None
 after_last None e = refl
 after_last (Some r) e = absurd (cc)
 
-partial_form : (s : Reader) (head : Option Keyword) (form : Option Statement) (ts : List Lexeme) → IsPartial s → IsSighted ts (record { head = head; form = form }) → IsSmallSight (record { head = head; form = form }) → first_of checks s (record { head = head; form = form }) ≡ None → IsPartial (next_form s form)
+partial_form : (s : Reader) (head : Option Keyword) (form : Option Statement) (ts : List Lexeme) → IsPartial s
+    → IsSighted ts (record { head = head; form = form }) → IsSmallSight (record { head = head; form = form })
+    → first_of checks s (record { head = head; form = form }) ≡ None → IsPartial (next_form s form)
 partial_form s head None ts p seen small pass = p
 partial_form s head (Some said) ts p seen small pass =
     let l : Sighted = record { head = head; form = Some said } in
@@ -103,14 +117,17 @@ partial_form s head (Some said) ts p seen small pass =
     let d = or_none (names_check s said) r2 c.1 in
     let e = or_none (range_check s said) r3 d.1 in
     let f = or_none (start_check s said) r4 e.1 in
-    let h : head_check s (record { head = reserved_at ts 0; form = Some said }) ≡ None = subst (λ o. head_check s (record { head = o; form = Some said }) ≡ None) seen.head (heads_pass s l first.0 later.0) in
+    let h : head_check s (record { head = reserved_at ts 0; form = Some said }) ≡ None =
+    subst (λ o. head_check s (record { head = o; form = Some said }) ≡ None) seen.head (heads_pass s l first.0 later.0) in
     partial_statement s said p (placed s ts said seen.form h) (small said refl) c.0 d.0 e.0 f.0 (after_last (count_check s said) f.1)
 
 -- a line that is seen and passes its checks keeps the promises
-pub partial_sight : (s : Reader) (l : Sighted) (ts : List Lexeme) → IsPartial s → IsSighted ts l → IsSmallSight l → first_of checks s l ≡ None → IsPartial (next_form s l.form)
+pub partial_sight : (s : Reader) (l : Sighted) (ts : List Lexeme) → IsPartial s → IsSighted ts l → IsSmallSight l → first_of checks s l ≡ None
+    → IsPartial (next_form s l.form)
 partial_sight s l ts p seen small pass = partial_form s l.head l.form ts p seen small pass
 
 -- a line that is taken keeps the promises
-pub line_partial : (s t : Reader) (l : Sighted) (line : List ℕ) (result : Result (Unit {0}) LineError) → IsPartial s → Says IsSighted line l → IsSmallSight l → Takes checks next s t l result → OnOk result (IsPartial t)
+pub line_partial : (s t : Reader) (l : Sighted) (line : List ℕ) (result : Result (Unit {0}) (LineError Refusal)) → IsPartial s → Says IsSighted line l
+    → IsSmallSight l → Takes checks next s t l result → OnOk result (IsPartial t)
 line_partial s t l line (Ok u) p said small takes = subst IsPartial (sym takes.1) (partial_sight s l (said.first ∷ said.more) p said.says small takes.0)
 line_partial s t l line (Err e) p said small takes = tt

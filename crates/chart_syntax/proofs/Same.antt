@@ -20,12 +20,19 @@ pub record AreSame (a b : Chart) : Type 0 where
   pub transitions : a.transitions ≡ b.transitions
 
 same_input : (a b : Input) → bounds_of_input a ≡ bounds_of_input b → a ≡ b
-same_input a b e = λ j. record { name = (e j).0; lo = (e j).1; hi = (e j).2; ranged = is_prop→PathP (λ k. IsRange (e k).1 (e k).2) (λ k. hlevel props) a.ranged b.ranged j }
+same_input a b e = λ j. record {
+  name = (e j).0;
+  lo = (e j).1;
+  hi = (e j).2;
+  ranged = is_prop→PathP (λ k. IsRange (e k).1 (e k).2) (λ k. hlevel props) a.ranged b.ranged j;
+}
 
-heads : (x : Input) (xs : List Input) (y : Input) (ys : List Input) → map bounds_of_input (x ∷ xs) ≡ map bounds_of_input (y ∷ ys) → bounds_of_input x ≡ bounds_of_input y
+heads : (x : Input) (xs : List Input) (y : Input) (ys : List Input) → map bounds_of_input (x ∷ xs) ≡ map bounds_of_input (y ∷ ys)
+    → bounds_of_input x ≡ bounds_of_input y
 heads x xs y ys e = cc
 
-tails : (x : Input) (xs : List Input) (y : Input) (ys : List Input) → map bounds_of_input (x ∷ xs) ≡ map bounds_of_input (y ∷ ys) → map bounds_of_input xs ≡ map bounds_of_input ys
+tails : (x : Input) (xs : List Input) (y : Input) (ys : List Input) → map bounds_of_input (x ∷ xs) ≡ map bounds_of_input (y ∷ ys)
+    → map bounds_of_input xs ≡ map bounds_of_input ys
 tails x xs y ys e = cc
 
 same_inputs : (xs ys : List Input) → map bounds_of_input xs ≡ map bounds_of_input ys → xs ≡ ys
@@ -52,5 +59,6 @@ same_chart a b same =
       memories = same.memories j;
       states = same.states j;
       transitions = same.transitions j;
-      kept = is_prop→PathP (λ k. IsChart (s k) (same.initial k) (same.assumed k) (same.memories k) (same.states k) (same.transitions k)) (λ k. hlevel props) a.kept b.kept j;
+      kept = is_prop→PathP (λ k. IsChart (s k) (same.initial k) (same.assumed k) (same.memories k) (same.states k) (same.transitions k))
+          (λ k. hlevel props) a.kept b.kept j;
     }

@@ -1,11 +1,12 @@
 -- The checks of a line of a chart in their order, what a line declares, and what is checked at the end.
-use Rattle.std.specs.Prelude.{◌≡◌, ℕ, ◌+◌, ◌*◌, ℤ, pos, ◌-ℤ◌, Bool, true, false, not, ◌&&◌, ◌||◌, if◌then◌else◌, ◌==◌, nat_lt, nat_le, int_lt, List, [], ◌∷◌, ◌++◌, length, map, unsigned_abs, slice_get, slice_set, Option, Some, None, is_some, unwrap_or, option_map, option_and_then, Result, Ok, Err}
+use Rattle.std.specs.Prelude.{◌≡◌, ℕ, ◌+◌, ◌*◌, ℤ, pos, ◌-ℤ◌, Bool, true, false, not, ◌&&◌, ◌||◌, if◌then◌else◌}
+use Rattle.std.specs.Prelude.{◌==◌, nat_lt, nat_le, int_lt, List, [], ◌∷◌, ◌++◌, length, map, unsigned_abs}
+use Rattle.std.specs.Prelude.{slice_get, slice_set, Option, Some, None, is_some, unwrap_or, option_map}
+use Rattle.std.specs.Prelude.{option_and_then, Result, Ok, Err}
 use Rattle.std.specs.List.{list_any, list_all}
 use Rattle.std.specs.Option.{option_map_or}
 use Rattle.std.specs.Ordering.{int_eq}
 use Rattle.lin_form.specs.declared.form.Comparison.{Comparison}
-use Rattle.lin_form.specs.Trees.{Tree}
-use Rattle.lin_form.specs.Trees as tree
 use Rattle.line_tokens.specs.declared.error.TokenLimit.{TokenLimit}
 use Rattle.line_tokens.specs.declared.error.TokenLimit.TheVariants as token_limit
 use Rattle.line_tokens.specs.declared.error.TokenError.{TokenError}
@@ -29,19 +30,22 @@ use Rattle.chart_syntax.specs.declared.reader.DeclaredState.{DeclaredState}
 use Rattle.chart_syntax.specs.declared.resolve.Resolved.{Resolved}
 use Rattle.chart_syntax.specs.declared.resolve.Resolved.TheVariants as resolved
 use Rattle.chart_syntax.specs.declared.reader.Reader.{Reader}
-use Rattle.chart_syntax.specs.declared.sum.Scope.TheVariants as scope
 use Rattle.chart_syntax.specs.declared.error.Kind.{Kind}
 use Rattle.chart_syntax.specs.declared.error.Kind.TheVariants as kind
 use Rattle.chart_syntax.specs.declared.error.Which.{Which}
 use Rattle.chart_syntax.specs.declared.error.Which.TheVariants as which
 use Rattle.chart_syntax.specs.declared.error.Refusal.{Refusal}
 use Rattle.chart_syntax.specs.declared.error.Refusal.TheVariants.{Fault, Limit}
-use Rattle.chart_syntax.specs.declared.error.LineError.{LineError}
-use Rattle.chart_syntax.specs.declared.error.LineError.TheVariants as line_error
+use Rattle.text_lines.specs.declared.read.LineError.{LineError}
+use Rattle.text_lines.specs.declared.read.LineError.TheVariants as line_error
 use Rattle.chart_syntax.specs.declared.error.ChartError.{ChartError}
 use Rattle.chart_syntax.specs.declared.error.ChartError.TheVariants as chart_error
-use Rattle.chart_syntax.specs.Names.{is_declared, place_of}
-use Rattle.chart_syntax.specs.Collect.{or_else, use_check, input_names, output_names, memory_names, sum_check, test_check, comparison_of, value_form_of}
+use Rattle.line_tokens.specs.Limits.{or_else}
+use Rattle.line_checks.specs.Names.{is_declared, place_of, use_check}
+use Rattle.line_checks.specs.Sums.{sum_check, test_check, value_form_of}
+use Rattle.line_checks.specs.Guards.{guard_check, guard_of}
+use Rattle.chart_syntax.specs.Scopes.{input_names, output_names, memory_names, guard_scope, assumption_scope}
+use Rattle.chart_syntax.specs.Scopes.{action_scope, assumption_of, told}
 
 -- checks 1 to 4: what a line is refused for whose tokens are none, or pass a limit
 
@@ -51,12 +55,12 @@ which_of token_limit.NameBytes = which.NameBytes
 which_of token_limit.Tokens = which.Tokens
 which_of token_limit.Nesting = which.Nesting
 
-abbrev pub line_error_of : TokenError → LineError
+abbrev pub line_error_of : TokenError → LineError Refusal
 line_error_of token_error.Byte = line_error.Refused (Fault kind.Byte)
 line_error_of (token_error.Limit limit) = line_error.Refused (Limit (which_of limit))
 line_error_of token_error.Memory = line_error.Memory
 
-abbrev pub refused_at : ℕ → LineError → ChartError
+abbrev pub refused_at : ℕ → LineError Refusal → ChartError
 refused_at line (line_error.Refused (Fault kind)) = chart_error.Fault line kind
 refused_at line (line_error.Refused (Limit which)) = chart_error.Limit line which
 refused_at line line_error.Memory = chart_error.Memory
@@ -78,7 +82,19 @@ fault_check met kind = if met then Some (Fault kind) else None
 
 -- nothing is read
 abbrev pub start : Reader
-start = record { version = 0; group = 0; inputs = []; assumed = []; outputs = []; memories = []; product = 1; states = []; entries = []; exits = []; transitions = [] }
+start = record {
+  version = 0;
+  group = 0;
+  inputs = [];
+  assumed = [];
+  outputs = [];
+  memories = [];
+  product = 1;
+  states = [];
+  entries = [];
+  exits = [];
+  transitions = [];
+}
 
 -- check 5
 
@@ -124,7 +140,8 @@ form_check s l = fault_check (not (is_formed s.version l.form)) kind.Form
 
 -- check 8
 abbrev pub comparisons_check : Check Statement
-comparisons_check s (says.On f) = if nat_lt 64 (option_map_or written.tests_of f.guard 0) then Some (Limit which.Comparisons) else None
+comparisons_check s (says.On f) = if nat_lt 64 (option_map_or written.tests_of f.guard 0)
+    then Some (Limit which.Comparisons) else None
 comparisons_check s other = None
 
 -- check 9: names from left to right
@@ -134,10 +151,11 @@ abbrev pub double_check : Bool → Option Refusal
 double_check declared = fault_check declared kind.Double
 
 abbrev pub is_variable : Reader → List ℕ → Bool
-is_variable s name = is_declared name (input_names s) || is_declared name (output_names s) || is_declared name (memory_names s)
+is_variable s name = is_declared name (input_names s) || is_declared name (output_names s)
+    || is_declared name (memory_names s)
 
 abbrev pub state_check : Reader → List ℕ → Option Refusal
-state_check s name = use_check (place_of name (state_names s)) false
+state_check s name = told (use_check (place_of name (state_names s)) false)
 
 -- the state after `in`, where there is one
 abbrev pub some_state_check : Reader → Option (List ℕ) → Option Refusal
@@ -154,24 +172,18 @@ abbrev pub place_of_name : Reader → List ℕ → Option Place
 place_of_name s name = place_in (place_of name (memory_names s)) (place_of name (output_names s))
 
 abbrev pub place_check : Reader → List ℕ → Option Refusal
-place_check s name = use_check (place_of_name s name) (is_declared name (input_names s))
+place_check s name = told (use_check (place_of_name s name) (is_declared name (input_names s)))
 
 abbrev pub action_check : Reader → ActionForm → Option Refusal
-action_check s a = or_else (place_check s a.name) (sum_check s scope.Action a.sum)
+action_check s a = or_else (place_check s a.name) (told (sum_check (action_scope s) a.sum))
 
 abbrev pub actions_check : Reader → List ActionForm → Option Refusal
 actions_check s [] = None
 actions_check s (a ∷ more) = or_else (action_check s a) (actions_check s more)
 
-abbrev pub guard_check : Reader → written.Tree → Option Refusal
-guard_check s (written.test t) = test_check s scope.Guard t
-guard_check s (written.not g) = guard_check s g
-guard_check s (written.and g h) = or_else (guard_check s g) (guard_check s h)
-guard_check s (written.or g h) = or_else (guard_check s g) (guard_check s h)
-
 abbrev pub when_check : Reader → Option written.Tree → Option Refusal
 when_check s None = None
-when_check s (Some g) = guard_check s g
+when_check s (Some g) = told (guard_check (guard_scope s) g)
 
 -- a state is the parent of one
 abbrev pub is_child_of : ℕ → DeclaredState → Bool
@@ -192,18 +204,20 @@ target_check s (Some name) history = found_target_check s (place_of name (state_
 abbrev pub names_check : Check Statement
 names_check s (says.Chart n) = None
 names_check s (says.Input f) = double_check (is_variable s f.name)
-names_check s (says.Assume t) = test_check s scope.Assumption t
+names_check s (says.Assume t) = told (test_check (assumption_scope s) t)
 names_check s (says.Output f) = double_check (is_variable s f.name)
 names_check s (says.Memory f) = double_check (is_variable s f.name)
 names_check s (says.State f) = or_else (double_check (is_declared f.name (state_names s))) (some_state_check s f.parent)
 names_check s (says.Entry f) = or_else (state_check s f.state) (actions_check s f.actions)
 names_check s (says.Exit f) = or_else (state_check s f.state) (actions_check s f.actions)
-names_check s (says.On f) = or_else (state_check s f.source) (or_else (when_check s f.guard) (or_else (actions_check s f.effect) (target_check s f.target f.history)))
+names_check s (says.On f) = or_else (state_check s f.source)
+    (or_else (when_check s f.guard) (or_else (actions_check s f.effect) (target_check s f.target f.history)))
 
 -- check 10: a range has a number, a memory's value lies in its range, and an assumption speaks of an input
 
 abbrev pub is_outside : MemoryForm → Bool
-is_outside f = int_lt (value_of f.hi) (value_of f.lo) || int_lt (value_of f.value) (value_of f.lo) || int_lt (value_of f.hi) (value_of f.value)
+is_outside f = int_lt (value_of f.hi) (value_of f.lo) || int_lt (value_of f.value) (value_of f.lo)
+    || int_lt (value_of f.hi) (value_of f.value)
 
 abbrev pub is_zero : ℤ → Bool
 is_zero z = int_eq z (pos 0)
@@ -213,7 +227,7 @@ is_constant comparison = list_all is_zero comparison.form.inputs
 
 abbrev pub range_check : Check Statement
 range_check s (says.Input f) = fault_check (int_lt (value_of f.hi) (value_of f.lo)) kind.Range
-range_check s (says.Assume t) = fault_check (is_constant (comparison_of s scope.Assumption t)) kind.Range
+range_check s (says.Assume t) = fault_check (is_constant (assumption_of s t)) kind.Range
 range_check s (says.Memory f) = fault_check (is_outside f) kind.Range
 range_check s other = None
 
@@ -241,7 +255,8 @@ abbrev pub has_line : List (Option (List Action)) → ℕ → Bool
 has_line lines k = option_map_or is_some (slice_get lines k) false
 
 abbrev pub start_check : Check Statement
-start_check s (says.State f) = fault_check (f.start && list_any (is_start_under (parent_number s f.parent)) s.states) kind.Start
+start_check s (says.State f) = fault_check
+    (f.start && list_any (is_start_under (parent_number s f.parent)) s.states) kind.Start
 start_check s (says.Entry f) = fault_check (has_line s.entries (number_of f.state (state_names s))) kind.Twice
 start_check s (says.Exit f) = fault_check (has_line s.exits (number_of f.state (state_names s))) kind.Twice
 start_check s other = None
@@ -265,8 +280,11 @@ count_check s (says.Chart n) = None
 count_check s (says.Input f) = limit_check (nat_le 6 (length s.inputs)) which.Inputs
 count_check s (says.Assume t) = limit_check (nat_le 16 (length s.assumed)) which.Assumptions
 count_check s (says.Output f) = limit_check (nat_le 8 (length s.outputs)) which.Outputs
-count_check s (says.Memory f) = or_else (limit_check (nat_le 4 (length s.memories)) which.Memories) (or_else (limit_check (not (is_bounded f)) which.Bound) (limit_check (nat_lt 256 (s.product * memory_size f)) which.Product))
-count_check s (says.State f) = or_else (limit_check (nat_le 64 (length s.states)) which.States) (limit_check (nat_lt 8 (depth_under s (parent_number s f.parent))) which.Depth)
+count_check s (says.Memory f) = or_else (limit_check (nat_le 4 (length s.memories)) which.Memories)
+    (or_else (limit_check (not (is_bounded f)) which.Bound)
+    (limit_check (nat_lt 256 (s.product * memory_size f)) which.Product))
+count_check s (says.State f) = or_else (limit_check (nat_le 64 (length s.states)) which.States)
+    (limit_check (nat_lt 8 (depth_under s (parent_number s f.parent))) which.Depth)
 count_check s (says.Entry f) = None
 count_check s (says.Exit f) = None
 count_check s (says.On f) = limit_check (nat_le 256 (length s.transitions)) which.Transitions
@@ -285,18 +303,13 @@ on_form check s l = on_some check s l.form
 
 -- all checks of a line with tokens, in their order
 abbrev pub checks : List (Check Sighted)
-checks = line_check ∷ order_check ∷ form_check ∷ on_form comparisons_check ∷ on_form names_check ∷ on_form range_check ∷ on_form start_check ∷ on_form count_check ∷ []
+checks = line_check ∷ order_check ∷ form_check ∷ on_form comparisons_check ∷ on_form names_check
+    ∷ on_form range_check ∷ on_form start_check ∷ on_form count_check ∷ []
 
 -- what a line declares
 
-abbrev pub guard_of : Reader → written.Tree → Tree Comparison
-guard_of s (written.test t) = tree.test (comparison_of s scope.Guard t)
-guard_of s (written.not g) = tree.not (guard_of s g)
-guard_of s (written.and g h) = tree.and (guard_of s g) (guard_of s h)
-guard_of s (written.or g h) = tree.or (guard_of s g) (guard_of s h)
-
 abbrev pub action_of : Reader → ActionForm → Action
-action_of s a = record { place = unwrap_or (place_of_name s a.name) (place.Output 0); value = value_form_of s a.sum }
+action_of s a = record { place = unwrap_or (place_of_name s a.name) (place.Output 0); value = value_form_of (action_scope s) (length s.inputs) a.sum }
 
 abbrev pub actions_of : Reader → List ActionForm → List Action
 actions_of s actions = map (action_of s) actions
@@ -304,18 +317,23 @@ actions_of s actions = map (action_of s) actions
 abbrev pub transition_of : Reader → OnForm → Transition
 transition_of s f = record {
   source = number_of f.source (state_names s);
-  guard = option_map (guard_of s) f.guard;
+  guard = option_map (guard_of (guard_scope s) (length s.inputs)) f.guard;
   effect = actions_of s f.effect;
   target = option_map (λ name. number_of name (state_names s)) f.target;
   history = f.history;
 }
 
 abbrev pub declared_state : Reader → StateForm → DeclaredState
-declared_state s f = record { name = f.name; parent = parent_number s f.parent; start = f.start; depth = depth_under s (parent_number s f.parent) }
+declared_state s f = record {
+  name = f.name;
+  parent = parent_number s f.parent;
+  start = f.start;
+  depth = depth_under s (parent_number s f.parent);
+}
 
 -- what the names of a line stand for, where they pass
 abbrev pub resolved_of : Reader → Statement → Resolved
-resolved_of s (says.Assume t) = resolved.Assumption (comparison_of s scope.Assumption t)
+resolved_of s (says.Assume t) = resolved.Assumption (assumption_of s t)
 resolved_of s (says.State f) = resolved.Parent (parent_number s f.parent)
 resolved_of s (says.Entry f) = resolved.Actions (number_of f.state (state_names s)) (actions_of s f.actions)
 resolved_of s (says.Exit f) = resolved.Actions (number_of f.state (state_names s)) (actions_of s f.actions)
@@ -328,7 +346,12 @@ abbrev pub with_assumption : Reader → Comparison → Reader
 with_assumption s comparison = record s { group = 2; assumed = s.assumed ++ comparison ∷ [] }
 
 abbrev pub with_state : Reader → DeclaredState → Reader
-with_state s state = record s { group = 5; states = s.states ++ state ∷ []; entries = s.entries ++ None ∷ []; exits = s.exits ++ None ∷ [] }
+with_state s state = record s {
+  group = 5;
+  states = s.states ++ state ∷ [];
+  entries = s.entries ++ None ∷ [];
+  exits = s.exits ++ None ∷ [];
+}
 
 abbrev pub with_entry : Reader → ℕ → List Action → Reader
 with_entry s k actions = record s { group = 6; entries = slice_set s.entries k (Some actions) }
@@ -343,9 +366,13 @@ with_transition s transition = record s { group = 6; transitions = s.transitions
 abbrev pub next_statement : Reader → Statement → Reader
 next_statement s (says.Chart n) = record s { version = n }
 next_statement s (says.Input f) = record s { group = 1; inputs = s.inputs ++ f ∷ [] }
-next_statement s (says.Assume t) = with_assumption s (comparison_of s scope.Assumption t)
+next_statement s (says.Assume t) = with_assumption s (assumption_of s t)
 next_statement s (says.Output f) = record s { group = 3; outputs = s.outputs ++ f ∷ [] }
-next_statement s (says.Memory f) = record s { group = 4; memories = s.memories ++ f ∷ []; product = s.product * memory_size f }
+next_statement s (says.Memory f) = record s {
+  group = 4;
+  memories = s.memories ++ f ∷ [];
+  product = s.product * memory_size f;
+}
 next_statement s (says.State f) = with_state s (declared_state s f)
 next_statement s (says.Entry f) = with_entry s (number_of f.state (state_names s)) (actions_of s f.actions)
 next_statement s (says.Exit f) = with_exit s (number_of f.state (state_names s)) (actions_of s f.actions)
@@ -372,22 +399,12 @@ abbrev pub lacks_start_child : Reader → Bool
 lacks_start_child s = list_any (lacks_start s.states) s.states
 
 abbrev pub is_missing : Reader → Bool
-is_missing s = length s.inputs == 0 || length s.outputs == 0 || length s.states == 0 || lacks_top_start s || lacks_start_child s
+is_missing s = length s.inputs == 0 || length s.outputs == 0 || length s.states == 0 || lacks_top_start s
+    || lacks_start_child s
 
 abbrev pub end_check : Reader → Option Refusal
-end_check s = if s.version == 0 then Some (Fault kind.Version) else if is_missing s then Some (Fault kind.Missing) else None
-
--- what a function answers that takes a line: it passes the checks and is taken, or this is the first refusal
-abbrev pub Takes : {L : Type 0} → List (Check L) → (Reader → L → Reader) → Reader → Reader → L → Result (Unit {0}) LineError → Type 0
-Takes all after old new l (Ok u) = (first_of all old l ≡ None) × (new ≡ after old l)
-Takes all after old new l (Err (line_error.Refused refusal)) = first_of all old l ≡ Some refusal
-Takes all after old new l (Err line_error.Memory) = Unit {0}
-
--- what a function answers that declares what is checked: it is declared, or memory was wanted
-abbrev pub Declares : Reader → Reader → Result (Unit {0}) LineError → Type 0
-Declares after new (Ok u) = new ≡ after
-Declares after new (Err (line_error.Refused refusal)) = ⊥
-Declares after new (Err line_error.Memory) = Unit {0}
+end_check s = if s.version == 0 then Some (Fault kind.Version) else if is_missing s then Some (Fault kind.Missing)
+    else None
 
 -- what a line's names stand for, by what it says
 
@@ -402,15 +419,3 @@ parent_in other = None
 abbrev pub state_in : Resolved → ℕ
 state_in (resolved.Actions k actions) = k
 state_in other = 0
-
--- what a function answers that makes one check
-abbrev pub Passes : Option Refusal → Result (Unit {0}) LineError → Type 0
-Passes check (Ok u) = check ≡ None
-Passes check (Err (line_error.Refused refusal)) = check ≡ Some refusal
-Passes check (Err line_error.Memory) = Unit {0}
-
--- what a function answers that resolves a part of a line to a value that is seen in another way
-abbrev pub Resolves : {T : Type 0} {V : Type 0} → (T → V) → Option Refusal → V → Result T LineError → Type 0
-Resolves seen check content (Ok x) = (check ≡ None) × (seen x ≡ content)
-Resolves seen check content (Err (line_error.Refused refusal)) = check ≡ Some refusal
-Resolves seen check content (Err line_error.Memory) = Unit {0}

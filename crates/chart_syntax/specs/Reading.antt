@@ -6,7 +6,9 @@ use Rattle.chart_model.specs.declared.chart.Chart.{Chart}
 use Rattle.chart_model.specs.declared.state.Memory.{Memory}
 use Rattle.chart_model.specs.declared.state.State.{State}
 use Rattle.line_tokens.specs.declared.error.TokenError.{TokenError}
-use Rattle.line_tokens.specs.Lines.{lines_of}
+use Rattle.text_lines.specs.Reading as lines
+use Rattle.text_lines.specs.declared.read.LineError.{LineError}
+use Rattle.text_lines.specs.declared.read.LineError.TheVariants as line_error
 use Rattle.line_tokens.specs.Limits.{IsRefused}
 use Rattle.line_forms.specs.declared.statement.InputForm.{InputForm}
 use Rattle.line_forms.specs.declared.statement.MemoryForm.{MemoryForm}
@@ -17,17 +19,16 @@ use Rattle.chart_syntax.specs.declared.reader.DeclaredState.{DeclaredState}
 use Rattle.chart_syntax.specs.declared.reader.Reader.{Reader}
 use Rattle.chart_syntax.specs.declared.error.Refusal.{Refusal}
 use Rattle.chart_syntax.specs.declared.error.Refusal.TheVariants.{Fault, Limit}
-use Rattle.chart_syntax.specs.declared.error.LineError.{LineError}
-use Rattle.chart_syntax.specs.declared.error.LineError.TheVariants as line_error
 use Rattle.chart_syntax.specs.declared.error.ChartError.{ChartError}
 use Rattle.chart_syntax.specs.declared.error.ChartError.TheVariants as chart_error
 use Rattle.chart_syntax.specs.Checks.{checks, first_of, next, start, end_check, line_error_of}
 
-abbrev pub refusal_in : LineError → Option Refusal
+abbrev pub refusal_in : LineError Refusal → Option Refusal
 refusal_in (line_error.Refused refusal) = Some refusal
 refusal_in line_error.Memory = None
 
--- what refuses a line that is seen as this, given what the lines before it declared; a blank line is refused for its bytes alone
+-- what refuses a line that is seen as this, given what the lines before it declared; a blank line is refused for
+-- its bytes alone
 abbrev pub view_check : Reader → Result (Option Sighted) TokenError → Option Refusal
 view_check s (Err error) = refusal_in (line_error_of error)
 view_check s (Ok None) = None
@@ -48,10 +49,21 @@ states_of [] entries exits = []
 states_of (state ∷ states) [] exits = []
 states_of (state ∷ states) (entry ∷ entries) [] = []
 states_of (state ∷ states) (entry ∷ entries) (exit ∷ exits) =
-    record { name = state.name; parent = state.parent; start = state.start; entry = actions_of_line entry; exit = actions_of_line exit } ∷ states_of states entries exits
+    record {
+      name = state.name;
+      parent = state.parent;
+      start = state.start;
+      entry = actions_of_line entry;
+      exit = actions_of_line exit;
+    } ∷ states_of states entries exits
 
 abbrev pub memory_of : MemoryForm → Memory
-memory_of form = record { name = form.name; lo = value_of form.lo; hi = value_of form.hi; initial = value_of form.value }
+memory_of form = record {
+  name = form.name;
+  lo = value_of form.lo;
+  hi = value_of form.hi;
+  initial = value_of form.value;
+}
 
 abbrev pub bounds_of_input : Input → List ℕ × ℤ × ℤ
 bounds_of_input input = (input.name, input.lo, input.hi)
@@ -69,42 +81,24 @@ pub record IsContent (s : Reader) (chart : Chart) : Type 0 where
   pub states : chart.states ≡ states_of s.states s.entries s.exits
   pub transitions : chart.transitions ≡ s.transitions
 
--- the lines pass their checks one after another, the end is reached, and the chart has what they declare
-abbrev pub ReadsFrom : Reader → List (List ℕ) → Chart → Type 0
-ReadsFrom s [] chart = (end_check s ≡ None) × IsContent s chart
-ReadsFrom s (line ∷ lines) chart = (view : Result (Option Sighted) TokenError) × IsView IsSighted line view × (view_check s view ≡ None) × ReadsFrom (next_view s view) lines chart
+-- what a line leads to, or why it is refused
+abbrev pub TakesSight : Reader → List ℕ → Result Reader Refusal → Type 0
+TakesSight = lines.StepBy (IsView IsSighted) (λ s view check. view_check s view ≡ check) next_view
 
 -- the text is a chart, and this is the chart
 abbrev pub Reads : List ℕ → Chart → Type 0
-Reads text chart = ReadsFrom start (lines_of text) chart
-
--- a check meets the line with number n, or none does and what is said of the later lines holds
-abbrev pub IsMet : Option Refusal → ℕ → ℕ → Refusal → Type 0 → Type 0
-IsMet (Some met) n m refusal later = (m ≡ n) × (refusal ≡ met)
-IsMet None n m refusal later = later
-
--- the first line that a check meets, or the end, has the number m, where the lines are counted from n
-abbrev pub RefusesFrom : Reader → ℕ → List (List ℕ) → ℕ → Refusal → Type 0
-RefusesFrom s n [] m refusal = (m ≡ n) × (end_check s ≡ Some refusal)
-RefusesFrom s n (line ∷ lines) m refusal = (view : Result (Option Sighted) TokenError) × IsView IsSighted line view
-    × IsMet (view_check s view) n m refusal (RefusesFrom (next_view s view) (n + 1) lines m refusal)
+Reads text chart = lines.Reads TakesSight end_check IsContent start text chart
 
 -- the text is no chart: of the line with this number, from 1, the first check that meets a line refuses it; what is
 -- missing at the end has the number after the last line's
 abbrev pub Refuses : List ℕ → ℕ → Refusal → Type 0
-Refuses text line refusal = RefusesFrom start 1 (lines_of text) line refusal
+Refuses text line refusal = lines.Refuses TakesSight end_check start text line refusal
 
 -- the error tells why a text is refused, or that there was no memory
 abbrev pub IsRefusedBy : (ℕ → Refusal → Type 0) → ChartError → Type 0
 IsRefusedBy refuses (chart_error.Fault line kind) = refuses line (Fault kind)
 IsRefusedBy refuses (chart_error.Limit line which) = refuses line (Limit which)
 IsRefusedBy refuses chart_error.Memory = Unit {0}
-
--- what a function answers that takes a line of bytes: it is taken, or this refuses it
-abbrev pub TakesLine : Reader → Reader → List ℕ → Result (Unit {0}) LineError → Type 0
-TakesLine old new line (Ok u) = (view : Result (Option Sighted) TokenError) × IsView IsSighted line view × (view_check old view ≡ None) × (new ≡ next_view old view)
-TakesLine old new line (Err (line_error.Refused refusal)) = (view : Result (Option Sighted) TokenError) × IsView IsSighted line view × (view_check old view ≡ Some refusal)
-TakesLine old new line (Err line_error.Memory) = Unit {0}
 
 -- the tokens of the line are none, or pass a limit, as line 1 of a text
 pub record IsTokenRefusal (line : List ℕ) (n : ℕ) (refusal : Refusal) : Type 0 where
@@ -113,19 +107,6 @@ pub record IsTokenRefusal (line : List ℕ) (n : ℕ) (refusal : Refusal) : Type
   pub refused : IsRefused line error
   pub is : refusal_in (line_error_of error) ≡ Some refusal
 
--- what the lines that are read so far leave to be read
-pub record IsSoFar (text rest : List ℕ) (s : Reader) (n : ℕ) : Type 0 where
-  pub back : (chart : Chart) → ReadsFrom s (lines_of rest) chart → Reads text chart
-  pub refused : (m : ℕ) (refusal : Refusal) → RefusesFrom s n (lines_of rest) m refusal → Refuses text m refusal
-
--- what a function answers that reads the lines of a text: what is left to check at the end, or a refusal
-abbrev pub ReadsLines : List ℕ → Result (Reader × ℕ) ChartError → Type 0
-ReadsLines text (Ok r) = IsSoFar text [] r.0 r.1
-ReadsLines text (Err error) = IsRefusedBy (Refuses text) error
-
 -- for a text there is exactly one reading or exactly one refusal
-pub record IsDecided (text : List ℕ) : Type 0 where
-  pub one_reading : (a b : Chart) → Reads text a → Reads text b → a ≡ b
-  pub one_refusal : (n m : ℕ) (met other : Refusal) → Refuses text n met → Refuses text m other → (n ≡ m) × (met ≡ other)
-  pub apart : (chart : Chart) (n : ℕ) (met : Refusal) → Reads text chart → Refuses text n met → ⊥
-  pub some : ((chart : Chart) → Reads text chart → ⊥) → ((n : ℕ) (met : Refusal) → Refuses text n met → ⊥) → ⊥
+abbrev pub IsDecided : List ℕ → Type 0
+IsDecided text = lines.IsDecided (Reads text) (Refuses text)

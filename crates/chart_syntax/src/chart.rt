@@ -1,8 +1,9 @@
 ghost use Rattle.std.specs.Prelude.{◌≡◌, ◌≤◌, length, map, None, All, IfOk};
 ghost use Rattle.line_forms.specs.Forms.{value_of};
 ghost use Rattle.chart_syntax.specs.Checks.{end_check};
-ghost use Rattle.chart_syntax.specs.Promises.{IsPartial, HasRange};
-ghost use Rattle.chart_syntax.specs.Reading.{IsContent, bounds_of_input, bounds_of_form, memory_of, states_of, actions_of_line};
+ghost use Rattle.chart_syntax.specs.inside.Promises.{IsPartial, HasRange};
+ghost use Rattle.chart_syntax.specs.Reading.{IsContent, bounds_of_input, bounds_of_form, memory_of, states_of};
+ghost use Rattle.chart_syntax.specs.Reading.{actions_of_line};
 
 use crate::reader::{DeclaredState, Reader};
 use crate::value::value;

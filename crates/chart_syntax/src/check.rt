@@ -1,16 +1,20 @@
 //! The checks of a line that need no names to be looked up, each by itself.
 ghost use Rattle.std.specs.Prelude.{◌≡◌, ◌<◌, ◌^◌, Some};
 ghost use Rattle.line_forms.specs.declared.statement.Statement.TheVariants as says;
-ghost use Rattle.chart_syntax.specs.Checks.{Passes, group_of, is_version, is_formed, line_check, order_check, form_check, comparisons_check, range_check, start_check, count_check, fault_check, limit_check, is_outside, is_bounded, memory_size, is_constant, resolved_of, constant_in, parent_in, state_in};
-ghost use Rattle.chart_syntax.specs.Promises.{HasFew, IsPartial};
+ghost use Rattle.chart_syntax.specs.inside.Answers.{Passes};
+ghost use Rattle.chart_syntax.specs.Checks.{group_of, is_version, is_formed, line_check, order_check};
+ghost use Rattle.chart_syntax.specs.Checks.{form_check, comparisons_check, range_check, start_check, count_check};
+ghost use Rattle.chart_syntax.specs.Checks.{fault_check, limit_check, is_outside, is_bounded, memory_size};
+ghost use Rattle.chart_syntax.specs.Checks.{is_constant, resolved_of, constant_in, parent_in, state_in};
+ghost use Rattle.chart_syntax.specs.inside.Promises.{HasFew, IsPartial};
 
-use crate::error::{Kind, LineError, Which, fault, limit};
-use crate::guard::comparisons_left;
+use crate::error::{Kind, Refusal, Which};
 use crate::reader::Reader;
 use crate::resolve::Resolved;
 use crate::state::{depth, has_line, has_start};
 use crate::value::value;
 use lin_form::Comparison;
+use line_checks::comparisons_left;
 use line_forms::{Keyword, MemoryForm, Sighted, Statement};
 
 const MOST_COMPARISONS: usize = 64;
@@ -33,20 +37,20 @@ const LARGEST_DEPTH: usize = 8;
 
 const MOST_TRANSITIONS: usize = 256;
 
-fn fault_if(met: bool, kind: Kind) -> Result<(), LineError>
+fn fault_if(met: bool, kind: Kind) -> Result<(), Refusal>
     ensures { Passes (fault_check met kind) result }
 {
     if met {
-        return Err(fault(kind));
+        return Err(Refusal::Fault(kind));
     }
     Ok(())
 }
 
-fn limit_if(passed: bool, which: Which) -> Result<(), LineError>
+fn limit_if(passed: bool, which: Which) -> Result<(), Refusal>
     ensures { Passes (limit_check passed which) result }
 {
     if passed {
-        return Err(limit(which));
+        return Err(Refusal::Limit(which));
     }
     Ok(())
 }
@@ -77,7 +81,7 @@ fn states_version(form: &Option<Statement>) -> bool
 }
 
 /// Whether the first line states a version, and a later line begins with a word that begins lines.
-pub fn check_line(reader: &Reader, sighted: &Sighted) -> Result<(), LineError>
+pub fn check_line(reader: &Reader, sighted: &Sighted) -> Result<(), Refusal>
     ensures { Passes (line_check reader.now sighted.now) result }
 {
     if reader.version == 0 {
@@ -87,7 +91,7 @@ pub fn check_line(reader: &Reader, sighted: &Sighted) -> Result<(), LineError>
 }
 
 /// Whether a later line stands after no line of a later group.
-pub fn check_order(reader: &Reader, sighted: &Sighted) -> Result<(), LineError>
+pub fn check_order(reader: &Reader, sighted: &Sighted) -> Result<(), Refusal>
     ensures { Passes (order_check reader.now sighted.now) result }
 {
     fault_if(
@@ -107,17 +111,17 @@ fn is_form_of(version: u32, said: &Statement) -> bool
 }
 
 /// Whether the line's tokens derive from a form of the version.
-pub fn check_form(reader: &Reader, sighted: &Sighted) -> Result<(), LineError>
+pub fn check_form(reader: &Reader, sighted: &Sighted) -> Result<(), Refusal>
     ensures { Passes (form_check reader.now sighted.now) result }
 {
     match &sighted.form {
         Some(said) => fault_if(!is_form_of(reader.version, said), Kind::Form),
-        None => Err(fault(Kind::Form)),
+        None => Err(Refusal::Fault(Kind::Form)),
     }
 }
 
 /// Whether the line's guard has at most 64 comparisons.
-pub fn check_comparisons(reader: &Reader, said: &Statement) -> Result<(), LineError>
+pub fn check_comparisons(reader: &Reader, said: &Statement) -> Result<(), Refusal>
     ensures { Passes (comparisons_check reader.now said.now) result }
 {
     let Statement::On(form) = said else {
@@ -128,7 +132,7 @@ pub fn check_comparisons(reader: &Reader, said: &Statement) -> Result<(), LineEr
     };
     match comparisons_left(guard.condition(), MOST_COMPARISONS) {
         Some(_) => Ok(()),
-        None => Err(limit(Which::Comparisons)),
+        None => Err(Refusal::Limit(Which::Comparisons)),
     }
 }
 
@@ -163,7 +167,7 @@ fn is_outside(form: &MemoryForm) -> bool
 }
 
 /// Whether the line's range has a number, its value lies in the range, and its assumption speaks of an input.
-pub fn check_range(reader: &Reader, said: &Statement, resolved: &Resolved) -> Result<(), LineError>
+pub fn check_range(reader: &Reader, said: &Statement, resolved: &Resolved) -> Result<(), Refusal>
     requires { resolved.now ≡ resolved_of reader.now said.now }
     ensures { Passes (range_check reader.now said.now) result }
 {
@@ -196,7 +200,7 @@ fn state_in(resolved: &Resolved) -> usize
 }
 
 /// Whether a new start is the only one there, and a line on entry or exit the only one of its state.
-pub fn check_start(reader: &Reader, said: &Statement, resolved: &Resolved) -> Result<(), LineError>
+pub fn check_start(reader: &Reader, said: &Statement, resolved: &Resolved) -> Result<(), Refusal>
     requires { resolved.now ≡ resolved_of reader.now said.now }
     ensures { Passes (start_check reader.now said.now) result }
 {
@@ -232,15 +236,15 @@ pub fn range_size(form: &MemoryForm) -> u64
     (value(form.hi) - value(form.lo)).unsigned_abs() + 1
 }
 
-fn check_memory_count(reader: &Reader, form: &MemoryForm) -> Result<(), LineError>
+fn check_memory_count(reader: &Reader, form: &MemoryForm) -> Result<(), Refusal>
     requires { HasFew reader.now }
     ensures { Passes (count_check reader.now (says.Memory form.now)) result }
 {
     if reader.memories.len() >= MOST_MEMORIES {
-        return Err(limit(Which::Memories));
+        return Err(Refusal::Limit(Which::Memories));
     }
     if !is_bounded(form) {
-        return Err(limit(Which::Bound));
+        return Err(Refusal::Limit(Which::Bound));
     }
     limit_if(
         reader.product * range_size(form) > LARGEST_PRODUCT,
@@ -249,7 +253,7 @@ fn check_memory_count(reader: &Reader, form: &MemoryForm) -> Result<(), LineErro
 }
 
 /// Whether there is room for what the line declares.
-pub fn check_count(reader: &Reader, said: &Statement, resolved: &Resolved) -> Result<(), LineError>
+pub fn check_count(reader: &Reader, said: &Statement, resolved: &Resolved) -> Result<(), Refusal>
     requires partial { IsPartial reader.now }
     requires resolved { resolved.now ≡ resolved_of reader.now said.now }
     ensures { Passes (count_check reader.now said.now) result }
@@ -264,7 +268,7 @@ pub fn check_count(reader: &Reader, said: &Statement, resolved: &Resolved) -> Re
         Statement::Memory(form) => check_memory_count(reader, form),
         Statement::State(_) => {
             if reader.states.len() >= MOST_STATES {
-                return Err(limit(Which::States));
+                return Err(Refusal::Limit(Which::States));
             }
             limit_if(
                 depth(reader, parent_in(resolved)) > LARGEST_DEPTH,

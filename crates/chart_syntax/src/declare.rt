@@ -1,11 +1,12 @@
-ghost use Rattle.std.specs.Prelude.{◌≡◌, ◌≤◌, ◌<◌, length, false, map, None};
+ghost use Rattle.std.specs.Prelude.{◌≡◌, ◌≤◌, ◌<◌, length, false, map, None, OnOk};
 ghost use Rattle.line_forms.specs.declared.statement.Statement.TheVariants as says;
-ghost use Rattle.chart_syntax.specs.Checks.{Declares, is_variable, state_names, names_check, memory_size, resolved_of, next_statement, with_assumption, with_state, with_entry, with_exit, with_transition, declared_state, parent_number};
-ghost use Rattle.chart_syntax.specs.Names.{is_declared};
-ghost use Rattle.chart_syntax.specs.Promises.{HasFew, IsPartial};
+ghost use Rattle.chart_syntax.specs.Checks.{is_variable, state_names, names_check, memory_size};
+ghost use Rattle.chart_syntax.specs.Checks.{resolved_of, next_statement, with_assumption, with_state, with_entry};
+ghost use Rattle.chart_syntax.specs.Checks.{with_exit, with_transition, declared_state, parent_number};
+ghost use Rattle.line_checks.specs.Names.{is_declared};
+ghost use Rattle.chart_syntax.specs.inside.Promises.{HasFew, IsPartial};
 
 use crate::check::range_size;
-use crate::error::LineError;
 use crate::reader::{DeclaredState, Reader};
 use crate::resolve::Resolved;
 use crate::state::depth;
@@ -13,62 +14,63 @@ use chart_model::{Action, Transition};
 use lin_form::Comparison;
 use line_forms::{InputForm, MemoryForm, OutputForm, StateForm, Statement};
 use sqlite_items::Items;
+use std::alloc::AllocError;
 
-fn declare_input(reader: &mut Reader, form: InputForm) -> Result<(), LineError>
+fn declare_input(reader: &mut Reader, form: InputForm) -> Result<(), AllocError>
     requires { is_variable reader.old form.name ≡ false }
-    ensures { Declares (next_statement reader.old (says.Input form)) reader.new result }
+    ensures { OnOk result (reader.new ≡ next_statement reader.old (says.Input form)) }
 {
     if reader.inputs.push(form).is_err() {
-        return Err(LineError::Memory);
+        return Err(AllocError);
     }
     reader.group = 1;
     Ok(())
 }
 
-fn declare_assumption(reader: &mut Reader, assumption: Comparison) -> Result<(), LineError>
-    ensures { Declares (with_assumption reader.old assumption) reader.new result }
+fn declare_assumption(reader: &mut Reader, assumption: Comparison) -> Result<(), AllocError>
+    ensures { OnOk result (reader.new ≡ with_assumption reader.old assumption) }
 {
     if reader.assumed.push(assumption).is_err() {
-        return Err(LineError::Memory);
+        return Err(AllocError);
     }
     reader.group = 2;
     Ok(())
 }
 
-fn declare_output(reader: &mut Reader, form: OutputForm) -> Result<(), LineError>
+fn declare_output(reader: &mut Reader, form: OutputForm) -> Result<(), AllocError>
     requires { is_variable reader.old form.name ≡ false }
-    ensures { Declares (next_statement reader.old (says.Output form)) reader.new result }
+    ensures { OnOk result (reader.new ≡ next_statement reader.old (says.Output form)) }
 {
     if reader.outputs.push(form).is_err() {
-        return Err(LineError::Memory);
+        return Err(AllocError);
     }
     reader.group = 3;
     Ok(())
 }
 
-fn declare_memory(reader: &mut Reader, form: MemoryForm) -> Result<(), LineError>
+fn declare_memory(reader: &mut Reader, form: MemoryForm) -> Result<(), AllocError>
     requires few { HasFew reader.old }
     requires new { is_variable reader.old form.name ≡ false }
-    ensures { Declares (next_statement reader.old (says.Memory form)) reader.new result }
+    ensures { OnOk result (reader.new ≡ next_statement reader.old (says.Memory form)) }
 {
     let product = reader.product * range_size(&form);
     if reader.memories.push(form).is_err() {
-        return Err(LineError::Memory);
+        return Err(AllocError);
     }
     reader.product = product;
     reader.group = 4;
     Ok(())
 }
 
-fn declare_state(reader: &mut Reader, state: DeclaredState) -> Result<(), LineError>
+fn declare_state(reader: &mut Reader, state: DeclaredState) -> Result<(), AllocError>
     requires { is_declared state.name (state_names reader.old) ≡ false }
-    ensures { Declares (with_state reader.old state) reader.new result }
+    ensures { OnOk result (reader.new ≡ with_state reader.old state) }
 {
     if reader.states.push(state).is_err()
         || reader.entries.push(None).is_err()
         || reader.exits.push(None).is_err()
     {
-        return Err(LineError::Memory);
+        return Err(AllocError);
     }
     reader.group = 5;
     Ok(())
@@ -103,22 +105,22 @@ fn declare_exit(reader: &mut Reader, number: usize, actions: Items<Action>)
     reader.group = 6;
 }
 
-fn declare_transition(reader: &mut Reader, transition: Transition) -> Result<(), LineError>
-    ensures { Declares (with_transition reader.old transition) reader.new result }
+fn declare_transition(reader: &mut Reader, transition: Transition) -> Result<(), AllocError>
+    ensures { OnOk result (reader.new ≡ with_transition reader.old transition) }
 {
     if reader.transitions.push(transition).is_err() {
-        return Err(LineError::Memory);
+        return Err(AllocError);
     }
     reader.group = 6;
     Ok(())
 }
 
 /// Declares what a line says whose names stand for this and pass.
-pub fn declare(reader: &mut Reader, said: &Statement, resolved: Resolved) -> Result<(), LineError>
+pub fn declare(reader: &mut Reader, said: &Statement, resolved: Resolved) -> Result<(), AllocError>
     requires partial { IsPartial reader.old }
     requires names { names_check reader.old said.now ≡ None }
     requires resolved { resolved ≡ resolved_of reader.old said.now }
-    ensures { Declares (next_statement reader.old said.now) reader.new result }
+    ensures { OnOk result (reader.new ≡ next_statement reader.old said.now) }
 {
     match (said, resolved) {
         (Statement::Chart(version), _) => {

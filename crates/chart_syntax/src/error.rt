@@ -1,6 +1,7 @@
 ghost use Rattle.std.specs.Prelude.{◌≡◌};
 ghost use Rattle.chart_syntax.specs.Checks.{refused_at};
 
+use text_lines::LineError;
 use thiserror::Error;
 
 /// What is wrong with a line.
@@ -72,29 +73,8 @@ pub enum Refusal {
     Limit(Which),
 }
 
-/// Why a line is not taken.
-#[derive(Debug, Drop)]
-pub enum LineError {
-    Refused(Refusal),
-    Memory,
-}
-
-/// That a line is refused for a fault.
-pub fn fault(kind: Kind) -> LineError
-    ensures { result ≡ LineError.Refused (Refusal.Fault kind) }
-{
-    LineError::Refused(Refusal::Fault(kind))
-}
-
-/// That a line passes a limit.
-pub fn limit(which: Which) -> LineError
-    ensures { result ≡ LineError.Refused (Refusal.Limit which) }
-{
-    LineError::Refused(Refusal::Limit(which))
-}
-
 /// Why a text is refused whose line with this number is not taken.
-pub fn at_line(line: usize, error: LineError) -> ChartError
+pub fn at_line(line: usize, error: LineError<Refusal>) -> ChartError
     ensures { result ≡ refused_at line error }
 {
     match error {

@@ -3,12 +3,6 @@ ghost use Rattle.std.specs.Prelude.{ℕ, List};
 ghost use Rattle.chart_model.specs.declared.chart.Chart.{Chart};
 ghost use Rattle.chart_syntax.specs.Reading.{IsDecided};
 ghost use Rattle.chart_syntax.specs.Words.{IsDecidedWord};
-ghost use Rattle.line_forms.specs.declared.statement.SignedTerm.{SignedTerm};
-ghost use Rattle.line_forms.specs.declared.statement.TestForm.{TestForm};
-ghost use Rattle.chart_syntax.specs.declared.reader.Reader.{Reader};
-ghost use Rattle.chart_syntax.specs.declared.sum.Scope.{Scope};
-ghost use Rattle.chart_syntax.specs.Collect.{IsAddedUp, IsValueAddedUp};
-ghost use Rattle.chart_syntax.specs.Promises.{HasFew};
 
 use line_forms::{all_small, one_numbers, one_sight, some_numbers, some_sight};
 
@@ -28,10 +22,3 @@ pub fn word_or_refusal()
     one_numbers();
     some_numbers();
 }
-
-/// In the form of a comparison, and in that of an action's value, the number of each name is what the factors of the terms
-/// with this name add up to, each with its sign, and the constant is what those of the terms without a name add up to.
-pub fn sums_add_up()
-    ensures comparisons { (s : Reader) (scope : Scope) (t : TestForm) → HasFew s → IsAddedUp s scope t }
-    ensures values { (s : Reader) (terms : List SignedTerm) → HasFew s → IsValueAddedUp s terms }
-{}

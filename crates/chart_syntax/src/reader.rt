@@ -32,7 +32,8 @@ impl Named for DeclaredState {
 pub struct Reader {
     /// The version that the first line states, 0 before it.
     pub version: u32,
-    /// The group of the last line: 1 for inputs, 2 for assumptions, 3 for outputs, 4 for memories, 5 for states and 6 for
+    /// The group of the last line: 1 for inputs, 2 for assumptions, 3 for outputs, 4 for memories, 5 for states and
+    /// 6 for
     /// what states do; 0 before all of them.
     pub group: u8,
     pub inputs: Table<InputForm>,

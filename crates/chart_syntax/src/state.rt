@@ -1,33 +1,29 @@
-ghost use Rattle.std.specs.Prelude.{◌≡◌, ◌≤◌, ◌<◌, ◌++◌, ◌∷◌, [], length, slice_set, Some, None, IfOk, OnOk, IfSome};
-ghost use Rattle.std.specs.List.{All, list_any};
-ghost use Rattle.line_forms.specs.declared.statement.Statement.TheVariants as says;
-ghost use Rattle.line_forms.specs.Limits.{IsSmallAction};
-ghost use Rattle.chart_syntax.specs.Collect.{Answers};
-ghost use Rattle.chart_syntax.specs.Checks.{Takes, statement_checks, next_statement, state_names, state_check, number_of, some_state_check, parent_number, is_start_under, same_parent, has_line, depth_under, declared_state};
-ghost use Rattle.chart_syntax.specs.Promises.{HasFew, IsPartial};
+ghost use Rattle.std.specs.Prelude.{◌≡◌, ◌<◌, length, IfOk};
+ghost use Rattle.std.specs.List.{list_any};
+ghost use Rattle.chart_syntax.specs.inside.Answers.{Answers};
+ghost use Rattle.chart_syntax.specs.Checks.{state_names, state_check, number_of, some_state_check, parent_number};
+ghost use Rattle.chart_syntax.specs.Checks.{is_start_under, same_parent, has_line, depth_under};
+ghost use Rattle.chart_syntax.specs.inside.Promises.{IsPartial};
 
-use crate::action::actions;
-use crate::error::{Kind, LineError, Which, fault, limit};
+use crate::error::{Kind, Refusal};
 use crate::reader::{DeclaredState, Reader};
 use chart_model::Action;
 use lin_form::Name;
-use line_forms::{ActionsForm, StateForm};
 use sqlite_items::Items;
-use std::alloc::Global;
 
 /// The number of a declared state.
-pub fn state(reader: &Reader, name: Name) -> Result<usize, LineError>
+pub fn state(reader: &Reader, name: Name) -> Result<usize, Refusal>
     ensures found { Answers (state_check reader.now name) (number_of name (state_names reader.now)) result }
     ensures within { IfOk result (λ number. number < length reader.now.states) }
 {
     match reader.states.find(name) {
         Some(number) => Ok(number),
-        None => Err(fault(Kind::Unknown)),
+        None => Err(Refusal::Fault(Kind::Unknown)),
     }
 }
 
 /// The number of the state that contains a new one, if one does.
-pub fn parent(reader: &Reader, name: Option<Name>) -> Result<Option<usize>, LineError>
+pub fn parent(reader: &Reader, name: Option<Name>) -> Result<Option<usize>, Refusal>
     ensures { Answers (some_state_check reader.now name) (parent_number reader.now name) result }
 {
     let Some(name) = name else {
@@ -35,7 +31,7 @@ pub fn parent(reader: &Reader, name: Option<Name>) -> Result<Option<usize>, Line
     };
     match reader.states.find(name) {
         Some(number) => Ok(Some(number)),
-        None => Err(fault(Kind::Unknown)),
+        None => Err(Refusal::Fault(Kind::Unknown)),
     }
 }
 

@@ -1,5 +1,5 @@
 ghost use Rattle.std.specs.Prelude.{◌≡◌, ◌++◌, ◌∷◌, [], ◌<◌, length, false, map, OnOk, OnErr, IfSome};
-ghost use Rattle.chart_syntax.specs.Names.{is_declared, place_of};
+ghost use Rattle.line_checks.specs.Names.{is_declared, place_of};
 
 use indexmap::IndexSet;
 use lin_form::Name;

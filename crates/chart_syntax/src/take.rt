@@ -1,26 +1,32 @@
 ghost use Rattle.line_forms.specs.Limits.{IsSmallStatement, IsSmallSight};
-ghost use Rattle.chart_syntax.specs.Checks.{Takes, checks, statement_checks, next, next_statement};
-ghost use Rattle.chart_syntax.specs.Promises.{IsPartial};
+ghost use Rattle.chart_syntax.specs.inside.Answers.{Takes};
+ghost use Rattle.chart_syntax.specs.Checks.{checks, statement_checks, next, next_statement};
+ghost use Rattle.chart_syntax.specs.inside.Promises.{IsPartial};
 
 use crate::check::{
     check_comparisons, check_count, check_form, check_line, check_order, check_range, check_start,
 };
 use crate::declare::declare;
-use crate::error::LineError;
+use crate::error::Refusal;
 use crate::reader::Reader;
 use crate::resolve::resolve;
 use line_forms::{Sighted, Statement};
 use std::alloc::Global;
+use text_lines::LineError;
 
 /// Makes the checks of what a line says, and declares it.
-fn take_statement(alloc: Global, reader: &mut Reader, said: &Statement) -> Result<(), LineError>
+fn take_statement(
+    alloc: Global,
+    reader: &mut Reader,
+    said: &Statement,
+) -> Result<(), LineError<Refusal>>
     requires partial { IsPartial reader.old }
     requires small { IsSmallStatement said.now }
     ensures { Takes statement_checks next_statement reader.old reader.new said.now result }
 {
     match check_comparisons(reader, said) {
         Ok(()) => {}
-        Err(error) => return Err(error),
+        Err(refusal) => return Err(LineError::Refused(refusal)),
     }
     let resolved = match resolve(alloc, reader, said) {
         Ok(resolved) => resolved,
@@ -28,36 +34,39 @@ fn take_statement(alloc: Global, reader: &mut Reader, said: &Statement) -> Resul
     };
     match check_range(reader, said, &resolved) {
         Ok(()) => {}
-        Err(error) => return Err(error),
+        Err(refusal) => return Err(LineError::Refused(refusal)),
     }
     match check_start(reader, said, &resolved) {
         Ok(()) => {}
-        Err(error) => return Err(error),
+        Err(refusal) => return Err(LineError::Refused(refusal)),
     }
     match check_count(reader, said, &resolved) {
         Ok(()) => {}
-        Err(error) => return Err(error),
+        Err(refusal) => return Err(LineError::Refused(refusal)),
     }
-    declare(reader, said, resolved)
+    match declare(reader, said, resolved) {
+        Ok(()) => Ok(()),
+        Err(_) => Err(LineError::Memory),
+    }
 }
 
 /// Makes the checks of a line in their order, and takes what it declares.
-pub fn take(alloc: Global, reader: &mut Reader, sighted: &Sighted) -> Result<(), LineError>
+pub fn take(alloc: Global, reader: &mut Reader, sighted: &Sighted) -> Result<(), LineError<Refusal>>
     requires partial { IsPartial reader.old }
     requires small { IsSmallSight sighted.now }
     ensures { Takes checks next reader.old reader.new sighted.now result }
 {
     match check_line(reader, sighted) {
         Ok(()) => {}
-        Err(error) => return Err(error),
+        Err(refusal) => return Err(LineError::Refused(refusal)),
     }
     match check_order(reader, sighted) {
         Ok(()) => {}
-        Err(error) => return Err(error),
+        Err(refusal) => return Err(LineError::Refused(refusal)),
     }
     match check_form(reader, sighted) {
         Ok(()) => {}
-        Err(error) => return Err(error),
+        Err(refusal) => return Err(LineError::Refused(refusal)),
     }
     match &sighted.form {
         Some(said) => take_statement(alloc, reader, said),

@@ -1,58 +1,18 @@
-ghost use Rattle.std.specs.Prelude.{◌≡◌, ◌≤◌, length, IfOk, IfErr, OnOk};
-ghost use Rattle.chart_syntax.specs.Checks.{Passes, end_check, start, is_missing, lacks_start_child, lacks_start};
-ghost use Rattle.chart_syntax.specs.Promises.{IsPartial};
-ghost use Rattle.chart_syntax.specs.Reading.{Reads, Refuses, IsRefusedBy, TakesLine, ReadsLines, IsSoFar};
+ghost use Rattle.std.specs.Prelude.{◌≡◌, IfOk, IfErr};
 ghost use Rattle.std.specs.List.{list_any};
+ghost use Rattle.chart_syntax.specs.Checks.{end_check, lacks_start, lacks_start_child};
+ghost use Rattle.chart_syntax.specs.Reading.{Reads, Refuses, IsRefusedBy};
 
 use crate::chart::chart;
-use crate::error::{ChartError, Kind, LineError, at_line, fault};
+use crate::error::{ChartError, Kind, Refusal, at_line};
 use crate::reader::{DeclaredState, Reader, begin};
 use crate::scan::token_error;
 use crate::state::has_start;
 use crate::take::take;
 use chart_model::Chart;
 use line_forms::Viewer;
-use line_tokens::next_line;
 use std::alloc::Global;
-
-/// Reads a line after those that the reader has read.
-fn read_line(
-    alloc: Global,
-    viewer: &mut Viewer,
-    reader: &mut Reader,
-    line: &[u8],
-) -> Result<(), LineError>
-    requires { IsPartial reader.old }
-    ensures line { TakesLine reader.old reader.new line.now result }
-    ensures partial { OnOk result (IsPartial reader.new) }
-{
-    match viewer.see(alloc, line) {
-        Ok(Some(sighted)) => take(alloc, reader, &sighted),
-        Ok(None) => Ok(()),
-        Err(error) => Err(token_error(error)),
-    }
-}
-
-/// What the lines of a text declare, and the number of the line after the last.
-fn read_lines(alloc: Global, text: &[u8]) -> Result<(Reader, usize), ChartError>
-    ensures lines { ReadsLines text.now result }
-    ensures partial { IfOk result (λ r. IsPartial r.0) }
-{
-    let mut viewer = Viewer::new(alloc);
-    let mut reader = begin(alloc);
-    let mut rest = text;
-    let mut number = 1;
-    'lines: while !rest.is_empty() {
-        let (line, after) = next_line(rest);
-        match read_line(alloc, &mut viewer, &mut reader, line) {
-            Ok(()) => {}
-            Err(error) => return Err(at_line(number, error)),
-        }
-        rest = after;
-        number += 1;
-    }
-    Ok((reader, number))
-}
+use text_lines::{LineError, TextError, TextReader, read_text};
 
 /// Whether the parent of a state has no start child.
 fn lacks_start(states: &[DeclaredState], state: &DeclaredState) -> bool
@@ -68,11 +28,12 @@ fn lacks_start_child(reader: &Reader) -> bool
     states.iter().any(|state| lacks_start(states, state))
 }
 
-fn check_end(reader: &Reader) -> Result<(), LineError>
-    ensures { Passes (end_check reader.now) result }
+/// What is missing at the end, if anything is.
+fn missing(reader: &Reader) -> Option<Refusal>
+    ensures { result ≡ end_check reader.now }
 {
     if reader.version == 0 {
-        return Err(fault(Kind::Version));
+        return Some(Refusal::Fault(Kind::Version));
     }
     if reader.inputs.len() == 0
         || reader.outputs.len() == 0
@@ -80,9 +41,48 @@ fn check_end(reader: &Reader) -> Result<(), LineError>
         || !has_start(reader.states.as_slice(), None)
         || lacks_start_child(reader)
     {
-        return Err(fault(Kind::Missing));
+        return Some(Refusal::Fault(Kind::Missing));
     }
-    Ok(())
+    None
+}
+
+/// Reads a chart.
+#[derive(Drop)]
+struct ChartReader {
+    viewer: Viewer,
+    reader: Reader,
+}
+
+impl TextReader for ChartReader {
+    type Refusal = Refusal;
+
+    ghost use Rattle.chart_syntax.specs.declared.reader.Reader.{Reader};
+    ghost use Rattle.chart_syntax.specs.Checks.{end_check};
+    ghost use Rattle.chart_syntax.specs.inside.Promises.{IsPartial};
+    ghost use Rattle.chart_syntax.specs.Reading.{TakesSight};
+
+    ghost State = { Reader };
+
+    ghost state = { λ r. r.reader };
+
+    ghost Kept = { IsPartial };
+
+    ghost Step = { TakesSight };
+
+    ghost end = { end_check };
+
+    fn take(&mut self, alloc: Global, line: &[u8]) -> Result<(), LineError<Refusal>> {
+        let sighted = match self.viewer.see(alloc, line) {
+            Ok(Some(sighted)) => sighted,
+            Ok(None) => return Ok(()),
+            Err(error) => return Err(token_error(error)),
+        };
+        take(alloc, &mut self.reader, &sighted)
+    }
+
+    fn end(&self) -> Option<Refusal> {
+        missing(&self.reader)
+    }
 }
 
 /// The chart that a text reads as, of version 1, 2 or 3.
@@ -93,14 +93,18 @@ pub fn read_chart(alloc: Global, text: &[u8]) -> Result<Chart, ChartError>
     ensures read { IfOk result (λ chart. Reads text.now chart) }
     ensures refused { IfErr result (IsRefusedBy (Refuses text.now)) }
 {
-    let (reader, number) = match read_lines(alloc, text) {
-        Ok(found) => found,
-        Err(error) => return Err(error),
+    let mut reader = ChartReader {
+        viewer: Viewer::new(alloc),
+        reader: begin(alloc),
     };
-    match check_end(&reader) {
+    match read_text(alloc, text, &mut reader) {
         Ok(()) => {}
-        Err(error) => return Err(at_line(number, error)),
+        Err(TextError::Refused(line, refusal)) => {
+            return Err(at_line(line, LineError::Refused(refusal)));
+        }
+        Err(TextError::Memory) => return Err(ChartError::Memory),
     }
+    let ChartReader { viewer: _, reader } = reader;
     match chart(alloc, reader) {
         Ok(chart) => Ok(chart),
         Err(_) => Err(ChartError::Memory),

@@ -1,20 +1,22 @@
-ghost use Rattle.std.specs.Prelude.{◌≡◌, Some, None, option_map};
+ghost use Rattle.std.specs.Prelude.{◌≡◌, option_map};
 ghost use Rattle.std.specs.List.{list_any};
 ghost use Rattle.line_forms.specs.declared.statement.Statement.TheVariants as says;
 ghost use Rattle.line_forms.specs.Limits.{IsSmallOn};
-ghost use Rattle.chart_syntax.specs.Collect.{Answers};
-ghost use Rattle.chart_syntax.specs.Checks.{Takes, Passes, statement_checks, next_statement, comparisons_check, state_names, number_of, is_parent, is_child_of, target_check, names_check, transition_of};
-ghost use Rattle.chart_syntax.specs.Promises.{HasFew};
+ghost use Rattle.chart_syntax.specs.inside.Answers.{Answers, Builds};
+ghost use Rattle.chart_syntax.specs.Checks.{state_names, number_of, is_parent, is_child_of, target_check};
+ghost use Rattle.chart_syntax.specs.Checks.{names_check, transition_of};
+ghost use Rattle.chart_syntax.specs.inside.Promises.{HasFew};
 
 use crate::action::actions;
-use crate::error::{Kind, LineError, Which, fault, limit};
-use crate::guard::{comparisons_left, condition};
+use crate::error::{Kind, Refusal};
+use crate::guard::condition;
 use crate::reader::{DeclaredState, Reader};
 use crate::state::state;
 use chart_model::Transition;
 use lin_form::Name;
 use line_forms::OnForm;
 use std::alloc::Global;
+use text_lines::LineError;
 
 fn is_child_of(parent: usize, state: &DeclaredState) -> bool
     ensures { result ≡ is_child_of parent state.now }
@@ -36,8 +38,9 @@ fn is_parent(reader: &Reader, number: usize) -> bool
 }
 
 /// The target, if there is one.
-fn target(reader: &Reader, name: Option<Name>, history: bool) -> Result<Option<usize>, LineError>
-    ensures { Answers (target_check reader.now name history) (option_map (λ target. number_of target (state_names reader.now)) name) result }
+fn target(reader: &Reader, name: Option<Name>, history: bool) -> Result<Option<usize>, Refusal>
+    ensures { Answers (target_check reader.now name history)
+        (option_map (λ target. number_of target (state_names reader.now)) name) result }
 {
     let Some(name) = name else {
         return Ok(None);
@@ -45,24 +48,34 @@ fn target(reader: &Reader, name: Option<Name>, history: bool) -> Result<Option<u
     match reader.states.find(name) {
         Some(number) => {
             if history && !is_parent(reader, number) {
-                return Err(fault(Kind::Misuse));
+                return Err(Refusal::Fault(Kind::Misuse));
             }
             Ok(Some(number))
         }
-        None => Err(fault(Kind::Unknown)),
+        None => Err(Refusal::Fault(Kind::Unknown)),
     }
 }
 
 /// The transition of a line over what is declared.
-pub fn transition(alloc: Global, reader: &Reader, form: &OnForm) -> Result<Transition, LineError>
+pub fn transition(
+    alloc: Global,
+    reader: &Reader,
+    form: &OnForm,
+) -> Result<Transition, LineError<Refusal>>
     requires few { HasFew reader.now }
     requires small { IsSmallOn form.now }
-    ensures { Answers (names_check reader.now (says.On form.now)) (transition_of reader.now form.now) result }
+    ensures { Builds (names_check reader.now (says.On form.now)) (transition_of reader.now form.now) result }
 {
-    let source = state(reader, form.source)?;
+    let source = match state(reader, form.source) {
+        Ok(source) => source,
+        Err(refusal) => return Err(LineError::Refused(refusal)),
+    };
     let guard = condition(alloc, reader, &form.guard)?;
     let effect = actions(alloc, reader, form.effect.as_slice())?;
-    let target = target(reader, form.target, form.history)?;
+    let target = match target(reader, form.target, form.history) {
+        Ok(target) => target,
+        Err(refusal) => return Err(LineError::Refused(refusal)),
+    };
     Ok(Transition {
         source,
         guard,

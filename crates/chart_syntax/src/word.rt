@@ -1,16 +1,17 @@
-ghost use Rattle.std.specs.Prelude.{◌≡◌, ◌≤◌, List, [], ◌∷◌, ◌++◌, length, take, map, All, IfOk, IfErr};
+ghost use Rattle.std.specs.Prelude.{◌≡◌, ◌≤◌, length, take, map, All, IfOk, IfErr};
+ghost use Rattle.chart_model.specs.Box.{meets};
 ghost use Rattle.chart_model.specs.Guard.{IsReadable};
 ghost use Rattle.chart_syntax.specs.Reading.{IsRefusedBy};
-ghost use Rattle.chart_syntax.specs.Words.{IsInBox, meets, vector_of, GivesVector, TakesVector, ReadsWord, RefusesWord};
+ghost use Rattle.chart_syntax.specs.Words.{IsInBox, vector_of, GivesVector, ReadsWord, RefusesWord};
 
-use crate::error::{ChartError, Kind, LineError, at_line, fault};
+use crate::error::{ChartError, Kind, Refusal, at_line};
 use crate::scan::token_error;
 use crate::value::value;
 use chart_model::Chart;
 use lin_form::{Comparison, Vector, holds};
 use line_forms::{Signed, Viewer, WordForm};
-use line_tokens::next_line;
 use std::alloc::Global;
+use text_lines::{LineError, TextError, TextReader, read_text};
 
 /// Whether every assumption holds for the vector.
 fn meets(assumed: &[Comparison], vector: &Vector) -> bool
@@ -38,46 +39,66 @@ fn values(numbers: &[Signed]) -> [i64; 6]
 }
 
 /// The vector of a line of a word.
-fn vector(alloc: Global, chart: &Chart, form: &WordForm) -> Result<Vector, LineError>
+fn vector(alloc: Global, chart: &Chart, form: &WordForm) -> Result<Vector, Refusal>
     ensures { GivesVector chart.now form.now.numbers result }
 {
     let Some(numbers) = &form.numbers else {
-        return Err(fault(Kind::Form));
+        return Err(Refusal::Fault(Kind::Form));
     };
     let count = numbers.as_slice().len();
     if count != chart.signature.inputs.as_slice().len() {
-        return Err(fault(Kind::Form));
+        return Err(Refusal::Fault(Kind::Form));
     }
     let vector = Vector::from_slice(alloc, &values(numbers.as_slice())[..count]);
     if !chart.signature.inputs.contains(&vector) || !meets(chart.assumed.as_slice(), &vector) {
-        return Err(fault(Kind::OutOfBox));
+        return Err(Refusal::Fault(Kind::OutOfBox));
     }
     Ok(vector)
 }
 
-/// Puts the vector of a line behind those of the lines before, if the line is not blank.
-fn take_vector(
-    alloc: Global,
-    viewer: &mut Viewer,
-    chart: &Chart,
-    line: &[u8],
-    vectors: &mut Vec<Vector>,
-) -> Result<(), LineError>
-    ensures { TakesVector chart.now line.now vectors.old.items vectors.new.items result }
-{
-    let form = match viewer.see_numbers(alloc, line) {
-        Ok(Some(form)) => form,
-        Ok(None) => return Ok(()),
-        Err(error) => return Err(token_error(error)),
-    };
-    let vector = match vector(alloc, chart, &form) {
-        Ok(vector) => vector,
-        Err(error) => return Err(error),
-    };
-    if vectors.push(vector).is_err() {
-        return Err(LineError::Memory);
+/// Reads a word over a chart.
+#[derive(Drop)]
+struct WordReader<'a> {
+    viewer: Viewer,
+    chart: &'a Chart,
+    vectors: Vec<Vector>,
+}
+
+impl<'a> TextReader for WordReader<'a> {
+    type Refusal = Refusal;
+
+    ghost use Rattle.std.specs.Prelude.{None};
+    ghost use Rattle.chart_syntax.specs.Words.{WordState, TakesVector, nothing_missing};
+
+    ghost State = { WordState };
+
+    ghost state = { λ r. record { chart = r.chart.now; vectors = r.vectors.items } };
+
+    ghost Kept = { λ s. Unit {0} };
+
+    ghost Step = { TakesVector };
+
+    ghost end = { nothing_missing };
+
+    fn take(&mut self, alloc: Global, line: &[u8]) -> Result<(), LineError<Refusal>> {
+        let form = match self.viewer.see_numbers(alloc, line) {
+            Ok(Some(form)) => form,
+            Ok(None) => return Ok(()),
+            Err(error) => return Err(token_error(error)),
+        };
+        let vector = match vector(alloc, self.chart, &form) {
+            Ok(vector) => vector,
+            Err(refusal) => return Err(LineError::Refused(refusal)),
+        };
+        if self.vectors.push(vector).is_err() {
+            return Err(LineError::Memory);
+        }
+        Ok(())
     }
-    Ok(())
+
+    fn end(&self) -> Option<Refusal> {
+        None
+    }
 }
 
 /// The word over the chart that a text reads as: a vector for each line that is not blank.
@@ -90,18 +111,22 @@ pub fn read_word(alloc: Global, text: &[u8], chart: &Chart) -> Result<Vec<Vector
     ensures inside { IfOk result (λ vectors. All (IsInBox chart.now) vectors.items) }
     ensures refused { IfErr result (IsRefusedBy (RefusesWord chart.now text.now)) }
 {
-    let mut viewer = Viewer::new(alloc);
-    let mut vectors = Vec::new(alloc);
-    let mut rest = text;
-    let mut number = 1;
-    'lines: while !rest.is_empty() {
-        let (line, after) = next_line(rest);
-        match take_vector(alloc, &mut viewer, chart, line, &mut vectors) {
-            Ok(()) => {}
-            Err(error) => return Err(at_line(number, error)),
+    let mut reader = WordReader {
+        viewer: Viewer::new(alloc),
+        chart,
+        vectors: Vec::new(alloc),
+    };
+    match read_text(alloc, text, &mut reader) {
+        Ok(()) => {}
+        Err(TextError::Refused(line, refusal)) => {
+            return Err(at_line(line, LineError::Refused(refusal)));
         }
-        rest = after;
-        number += 1;
+        Err(TextError::Memory) => return Err(ChartError::Memory),
     }
+    let WordReader {
+        viewer: _,
+        chart: _,
+        vectors,
+    } = reader;
     Ok(vectors)
 }

@@ -31,4 +31,5 @@ next_signature s (Ok (Some seen)) = refl
 -- the lines keep the signature
 pub same_signature : (lines : List (List ℕ)) (s t : CutsState) → Leads TakesCut s lines t → t.signature ≡ s.signature
 same_signature lines s t leads =
-    leads_keep (λ u. u.signature ≡ s.signature) TakesCut (λ u v line same taken. ap (λ w. w.signature) taken.3 ∙ next_signature u taken.0 ∙ same) lines s t refl leads
+    leads_keep (λ u. u.signature ≡ s.signature) TakesCut (λ u v line same taken. ap (λ w. w.signature) taken.3 ∙ next_signature u taken.0
+    ∙ same) lines s t refl leads

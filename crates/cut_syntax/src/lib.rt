@@ -3,9 +3,6 @@
 
 mod laws;
 mod read;
-mod refusal;
-#[cfg(test)]
-mod tests;
 
 pub use laws::cuts_or_refusal;
 pub use read::read_cuts;

@@ -5,9 +5,8 @@ ghost use Rattle.chart_syntax.specs.Reading.{IsRefusedBy};
 ghost use Rattle.cut_syntax.specs.Cuts.{ReadsCuts, RefusesCuts, AreOver, line_check, cut_check, first_check, cut_of};
 ghost use Rattle.cut_syntax.specs.inside.Lines.{Adds, IsOver};
 
-use crate::refusal::{LineRefusal, token_error};
 use chart_model::Cuts;
-use chart_syntax::{ChartError, Kind};
+use chart_syntax::{ChartError, Kind, Refusal, at_line, token_error};
 use lin_form::{Comparison, Signature};
 use line_checks::{InputScope, comparison};
 use line_forms::{CutsForm, Keyword, ParsedLine, Viewer};
@@ -15,13 +14,13 @@ use std::alloc::Global;
 use text_lines::{LineError, TextError, TextReader, read_text};
 
 /// What the first line adds, which is nothing.
-fn first(signature: &Signature, form: &Option<CutsForm>) -> Result<Option<Comparison>, LineRefusal>
+fn first(signature: &Signature, form: &Option<CutsForm>) -> Result<Option<Comparison>, Refusal>
     ensures value { Adds (first_check form.now) (cut_of signature.now form.now) result }
     ensures over { IfOk result (IsOver signature.now) }
 {
     match form {
         Some(CutsForm::Version(1)) => Ok(None),
-        _ => Err(LineRefusal::fault(Kind::Version)),
+        _ => Err(Refusal::Fault(Kind::Version)),
     }
 }
 
@@ -30,18 +29,18 @@ fn resolved(
     alloc: Global,
     signature: &Signature,
     form: &CutsForm,
-) -> Result<Option<Comparison>, LineRefusal>
+) -> Result<Option<Comparison>, Refusal>
     requires { IsSmallCutsForm form.now }
     ensures value { Adds (cut_check signature.now (Some form.now)) (cut_of signature.now (Some form.now)) result }
     ensures over { IfOk result (IsOver signature.now) }
 {
     let CutsForm::Cut(test) = form else {
-        return Err(LineRefusal::fault(Kind::Form));
+        return Err(Refusal::Fault(Kind::Form));
     };
     let scope = InputScope { signature };
     match comparison(alloc, &scope, signature.inputs.as_slice().len(), test) {
         Ok(comparison) => Ok(Some(comparison)),
-        Err(_) => Err(LineRefusal::fault(Kind::Unknown)),
+        Err(_) => Err(Refusal::Fault(Kind::Unknown)),
     }
 }
 
@@ -50,14 +49,14 @@ fn cut(
     alloc: Global,
     signature: &Signature,
     form: &Option<CutsForm>,
-) -> Result<Option<Comparison>, LineRefusal>
+) -> Result<Option<Comparison>, Refusal>
     requires { ForSome form.now IsSmallCutsForm }
     ensures value { Adds (cut_check signature.now form.now) (cut_of signature.now form.now) result }
     ensures over { IfOk result (IsOver signature.now) }
 {
     match form {
         Some(form) => resolved(alloc, signature, form),
-        None => Err(LineRefusal::fault(Kind::Form)),
+        None => Err(Refusal::Fault(Kind::Form)),
     }
 }
 
@@ -67,7 +66,7 @@ fn added(
     signature: &Signature,
     begun: bool,
     seen: &ParsedLine<CutsForm>,
-) -> Result<Option<Comparison>, LineRefusal>
+) -> Result<Option<Comparison>, Refusal>
     requires { ForSome seen.now.form IsSmallCutsForm }
     ensures value { Adds (line_check signature.now begun seen.now) (cut_of signature.now seen.now.form) result }
     ensures over { IfOk result (IsOver signature.now) }
@@ -77,7 +76,7 @@ fn added(
     }
     match seen.head {
         Some(Keyword::Cut) => cut(alloc, signature, &seen.form),
-        _ => Err(LineRefusal::fault(Kind::NoSuchLine)),
+        _ => Err(Refusal::Fault(Kind::NoSuchLine)),
     }
 }
 
@@ -91,7 +90,7 @@ struct CutsReader<'a> {
 }
 
 impl<'a> TextReader for CutsReader<'a> {
-    type Refusal = LineRefusal;
+    type Refusal = Refusal;
 
     ghost use Rattle.cut_syntax.specs.Cuts.{CutsState, TakesCut, version_missing};
     ghost use Rattle.cut_syntax.specs.inside.Lines.{AreRead};
@@ -106,7 +105,7 @@ impl<'a> TextReader for CutsReader<'a> {
 
     ghost end = { version_missing };
 
-    fn take(&mut self, alloc: Global, line: &[u8]) -> Result<(), LineError<LineRefusal>> {
+    fn take(&mut self, alloc: Global, line: &[u8]) -> Result<(), LineError<Refusal>> {
         let seen = match self.viewer.see_form::<CutsForm>(alloc, line) {
             Ok(Some(seen)) => seen,
             Ok(None) => return Ok(()),
@@ -126,11 +125,11 @@ impl<'a> TextReader for CutsReader<'a> {
         Ok(())
     }
 
-    fn end(&self) -> Option<LineRefusal> {
+    fn end(&self) -> Option<Refusal> {
         if self.begun {
             None
         } else {
-            Some(LineRefusal::fault(Kind::Version))
+            Some(Refusal::Fault(Kind::Version))
         }
     }
 }
@@ -154,7 +153,9 @@ pub fn read_cuts(alloc: Global, text: &[u8], signature: &Signature) -> Result<Cu
     };
     match read_text(alloc, text, &mut reader) {
         Ok(()) => {}
-        Err(TextError::Refused(line, refusal)) => return Err(refusal.at_line(line)),
+        Err(TextError::Refused(line, refusal)) => {
+            return Err(at_line(line, LineError::Refused(refusal)));
+        }
         Err(TextError::Memory) => return Err(ChartError::Memory),
     }
     let CutsReader {

@@ -1,5 +1,6 @@
 -- The chains of rows: how one row more is put in front, and that a state's chain has all rows of it that fire.
-use Rattle.std.proofs.Common.{◌≡◌, ℕ, zero, suc, ◌+◌, ◌<◌, ◌≤◌, ℤ, Bool, true, false, List, [], ◌∷◌, length, drop, set, get_or, replicate, Option, Some, None, slice_get, refl, sym, ap, ◌∙◌, subst, arith, inl, inr}
+use Rattle.std.proofs.Common.{◌≡◌, ℕ, zero, suc, ◌+◌, ◌<◌, ◌≤◌, ℤ, Bool, true, false, List, [], ◌∷◌, length, drop, set, get_or, replicate, Option}
+use Rattle.std.proofs.Common.{Some, None, slice_get, refl, sym, ap, ◌∙◌, subst, arith, inl, inr}
 use Rattle.std.specs.Prelude.{if◌then◌else◌, ◌==◌, ◌&&◌}
 use Rattle.std.specs.List.{All}
 use Rattle.std.proofs.lemmas.Bool.{cases_eq, cases_lt, ne_eqb}
@@ -19,9 +20,11 @@ other_state : (state : ℕ) (row : Row) (vector : List ℤ) → (row.from ≡ st
 other_state state row vector away = ap (λ b. b && holds row.guard vector) (ne_eqb row.from state away)
 
 -- no row of another state fires
-passed : (rows : List Row) (state i : ℕ) (row : Row) (vector : List ℤ) → slice_get rows i ≡ Some row → (row.from ≡ state → ⊥) → first_row (drop i rows) state vector ≡ first_row (drop (i + 1) rows) state vector
+passed : (rows : List Row) (state i : ℕ) (row : Row) (vector : List ℤ) → slice_get rows i ≡ Some row → (row.from ≡ state → ⊥)
+    → first_row (drop i rows) state vector ≡ first_row (drop (i + 1) rows) state vector
 passed rows state i row vector e away =
-    ap (λ l. first_row l state vector) (front_row rows i row e) ∙ ap (λ b. if b then Some row else first_row (drop (i + 1) rows) state vector) (other_state state row vector away)
+    ap (λ l. first_row l state vector) (front_row rows i row e) ∙ ap (λ b. if b then Some row else first_row (drop (i + 1) rows) state vector)
+    (other_state state row vector away)
 
 no_row_past : (rows : List Row) (i : ℕ) (row : Row) → length rows ≤ i → slice_get rows i ≡ Some row → ⊥
 no_row_past rows i row past e = let within = slice_get_within rows i row e in omega (arith, past, within)
@@ -31,7 +34,8 @@ next_here : (rows : List Row) (i : ℕ) (row : Row) → slice_get rows i ≡ Som
 next_here rows i row e = record { same = λ v. refl; up = omega arith; of_state = λ other f. ap (λ (r : Row). r.from) (same_Some other row (sym f ∙ e)) }
 
 -- and a row of another state is passed over
-next_before : (rows : List Row) (state i j : ℕ) (row : Row) → slice_get rows i ≡ Some row → (row.from ≡ state → ⊥) → IsNextOf rows state (i + 1) j → IsNextOf rows state i j
+next_before : (rows : List Row) (state i j : ℕ) (row : Row) → slice_get rows i ≡ Some row → (row.from ≡ state → ⊥) → IsNextOf rows state (i + 1) j
+    → IsNextOf rows state i j
 next_before rows state i j row e away n = record {
   same = λ v. passed rows state i row v e away ∙ n.same v;
   up = (let h : i + 1 ≤ j = n.up in omega (arith, h));
@@ -39,23 +43,27 @@ next_before rows state i j row e away n = record {
 }
 
 -- behind all rows there is none
-pub chained_at_end : (rows : List Row) (firsts nexts : List ℕ) → firsts ≡ replicate (length firsts) (length rows) → length nexts ≡ length rows → AreChainedFrom rows (length rows) firsts nexts
+pub chained_at_end : (rows : List Row) (firsts nexts : List ℕ) → firsts ≡ replicate (length firsts) (length rows) → length nexts ≡ length rows
+    → AreChainedFrom rows (length rows) firsts nexts
 chained_at_end rows firsts nexts filled sizes = record {
   one_each = sizes;
   first = λ state inside.
       let e : get_or firsts state 0 ≡ length rows = ap (λ l. get_or l state 0) filled ∙ get_or-replicate (length firsts) state (length rows) 0 inside in
-      subst (IsNextOf rows state (length rows)) (sym e) (record { same = λ v. refl; up = omega arith; of_state = λ row f. absurd (no_row_past rows (length rows) row (omega arith) f) });
+      subst (IsNextOf rows state (length rows)) (sym e)
+      (record { same = λ v. refl; up = omega arith; of_state = λ row f. absurd (no_row_past rows (length rows) row (omega arith) f) });
   next = λ i row past f. absurd (no_row_past rows i row past f);
 }
 
 -- a row is put in front of the rows behind it
-pub chained_before : (rows : List Row) (i : ℕ) (row : Row) (firsts nexts : List ℕ) → slice_get rows i ≡ Some row → row.from < length firsts → AreChainedFrom rows (i + 1) firsts nexts
+pub chained_before : (rows : List Row) (i : ℕ) (row : Row) (firsts nexts : List ℕ) → slice_get rows i ≡ Some row → row.from < length firsts
+    → AreChainedFrom rows (i + 1) firsts nexts
     → AreChainedFrom rows i (set firsts row.from i) (set nexts i (get_or firsts row.from 0))
 chained_before rows i row firsts nexts e inside c = record {
   one_each = length-set nexts i (get_or firsts row.from 0) ∙ c.one_each;
   first = λ state below. elim (cases_eq state row.from) as (λ _. IsNextOf rows state i (get_or (set firsts row.from i) state 0)) [
     | inl same ↦
-        let here : IsNextOf rows row.from i (get_or (set firsts row.from i) row.from 0) = subst (IsNextOf rows row.from i) (sym (get_or-set_same firsts row.from i 0 inside)) (next_here rows i row e) in
+        let here : IsNextOf rows row.from i (get_or (set firsts row.from i) row.from 0) =
+        subst (IsNextOf rows row.from i) (sym (get_or-set_same firsts row.from i 0 inside)) (next_here rows i row e) in
         subst (λ s. IsNextOf rows s i (get_or (set firsts row.from i) s 0)) (sym same) here
     | inr other ↦
         subst (IsNextOf rows state i) (sym (get_or-set_other firsts row.from state i 0 other))
@@ -78,7 +86,8 @@ chained_before rows i row firsts nexts e inside c = record {
     later k other from = elim (cases_lt i k) as (λ _. i + 1 ≤ k) [ inl less ↦ omega (arith, less) | inr more ↦ absurd (other (omega (arith, from, more))) ]
 
 -- a state past all rows' states has no row
-pub none_past : (rows : List Row) (states state : ℕ) (vector : List ℤ) → All (λ (row : Row). row.from < states) rows → states ≤ state → first_row rows state vector ≡ None
+pub none_past : (rows : List Row) (states state : ℕ) (vector : List ℤ) → All (λ (row : Row). row.from < states) rows → states ≤ state
+    → first_row rows state vector ≡ None
 none_past [] states state vector all past = refl
 none_past (row ∷ rows) states state vector all past =
     let P : Row → Type 0 = λ (row : Row). row.from < states in
@@ -86,14 +95,18 @@ none_past (row ∷ rows) states state vector all past =
     ap (λ b. if b then Some row else first_row rows state vector) (other_state state row vector (λ e. omega (arith, e, below, past)))
     ∙ none_past rows states state vector (All-tail P row rows all) past
 
-pub all_chained : (rows : List Row) (states : ℕ) (firsts nexts : List ℕ) → All (λ (row : Row). row.from < states) rows → length firsts ≡ states → AreChainedFrom rows 0 firsts nexts → AreChained rows firsts nexts
-all_chained rows states firsts nexts all size c = record { chains = c; no_other = λ state vector past. none_past rows states state vector all (omega (arith, size, past)) }
+pub all_chained : (rows : List Row) (states : ℕ) (firsts nexts : List ℕ) → All (λ (row : Row). row.from < states) rows → length firsts ≡ states
+    → AreChainedFrom rows 0 firsts nexts → AreChained rows firsts nexts
+all_chained rows states firsts nexts all size c =
+    record { chains = c; no_other = λ state vector past. none_past rows states state vector all (omega (arith, size, past)) }
 
 -- from a row of the state that does not hold, the search goes on at the next
-goes_on : (rows : List Row) (state at next : ℕ) (row : Row) (vector : List ℤ) → slice_get rows at ≡ Some row → row.from ≡ state → IsNextOf rows row.from (at + 1) next → holds row.guard vector ≡ false
+goes_on : (rows : List Row) (state at next : ℕ) (row : Row) (vector : List ℤ) → slice_get rows at ≡ Some row → row.from ≡ state
+    → IsNextOf rows row.from (at + 1) next → holds row.guard vector ≡ false
     → first_row (drop at rows) state vector ≡ first_row (drop next rows) state vector
 goes_on rows state at next row vector e of n shut =
-    ap (λ l. first_row l state vector) (front_row rows at row e) ∙ ap (λ b. if b then Some row else first_row (drop (at + 1) rows) state vector) (closed (row.from == state) (holds row.guard vector) shut)
+    ap (λ l. first_row l state vector) (front_row rows at row e) ∙ ap (λ b. if b then Some row else first_row (drop (at + 1) rows) state vector)
+    (closed (row.from == state) (holds row.guard vector) shut)
     ∙ subst (λ s. first_row (drop (at + 1) rows) s vector ≡ first_row (drop next rows) s vector) of (n.same vector)
   where
     closed : (a b : Bool) → b ≡ false → (a && b) ≡ false
@@ -101,15 +114,18 @@ goes_on rows state at next row vector e of n shut =
     closed false b f = refl
 
 -- a row of the state that holds is found
-found_here : (rows : List Row) (state at : ℕ) (row : Row) (vector : List ℤ) → slice_get rows at ≡ Some row → row.from ≡ state → holds row.guard vector ≡ true → first_row (drop at rows) state vector ≡ Some row
+found_here : (rows : List Row) (state at : ℕ) (row : Row) (vector : List ℤ) → slice_get rows at ≡ Some row → row.from ≡ state
+    → holds row.guard vector ≡ true → first_row (drop at rows) state vector ≡ Some row
 found_here rows state at row vector e of held =
-    ap (λ l. first_row l state vector) (front_row rows at row e) ∙ ap (λ b. if b then Some row else first_row (drop (at + 1) rows) state vector) (ap (λ s. s == state && holds row.guard vector) of ∙ (λ i. same i && held i))
+    ap (λ l. first_row l state vector) (front_row rows at row e) ∙ ap (λ b. if b then Some row else first_row (drop (at + 1) rows) state vector)
+    (ap (λ s. s == state && holds row.guard vector) of ∙ (λ i. same i && held i))
   where
     same : (state == state) ≡ true
     same = (Decides-eqb state state).1 refl
 
 -- a row that was read, which the search has reached
-module _ (seen rows : List Row) (firsts nexts : List ℕ) (state at : ℕ) (row : Row) (vector : List ℤ) (same : seen ≡ rows) (inside : at < length seen) (read : row ≡ get_or seen at row)
+module _ (seen rows : List Row) (firsts nexts : List ℕ) (state at : ℕ) (row : Row) (vector : List ℤ) (same : seen ≡ rows)
+    (inside : at < length seen) (read : row ≡ get_or seen at row)
     (of_state : (r : Row) → slice_get rows at ≡ Some r → r.from ≡ state) (rest : first_row (drop at rows) state vector ≡ first_row rows state vector) where
   row_there : slice_get rows at ≡ Some row
   row_there = ap (λ l. slice_get l at) (sym same) ∙ slice_get_read seen (length seen) at row refl inside read
@@ -123,7 +139,8 @@ module _ (seen rows : List Row) (firsts nexts : List ℕ) (state at : ℕ) (row 
     next_row =
         let within = slice_get_within rows at row row_there in
         let sizes : length nexts ≡ length rows = c.chains.one_each in
-        subst (IsNextOf rows row.from (at + 1)) (sym (get_or_read nexts at next (omega (arith, within, sizes)) is 0)) (c.chains.next at row (omega arith) row_there)
+        subst (IsNextOf rows row.from (at + 1)) (sym (get_or_read nexts at next (omega (arith, within, sizes)) is 0))
+        (c.chains.next at row (omega arith) row_there)
 
     pub search_goes_on : holds row.guard vector ≡ false → first_row (drop next rows) state vector ≡ first_row rows state vector
     search_goes_on shut = sym (goes_on rows state at next row vector row_there (of_state row row_there) next_row shut) ∙ rest

@@ -1,5 +1,6 @@
 -- Where two signatures differ first.
-use Rattle.std.proofs.Common.{◌≡◌, ℕ, ◌+◌, ℤ, Bool, true, false, ◌&&◌, List, [], ◌∷◌, length, map, drop, get_or, Option, Some, None, refl, sym, ◌∙◌, ap, subst, arith}
+use Rattle.std.proofs.Common.{◌≡◌, ℕ, ◌+◌, ℤ, Bool, true, false, ◌&&◌, List, [], ◌∷◌, length, map, drop, get_or, Option, Some, None, refl, sym}
+use Rattle.std.proofs.Common.{◌∙◌, ap, subst, arith}
 use Rattle.std.specs.Prelude.{if◌then◌else◌, ◌==◌, Result, Ok, Err, IfOk, IfErr}
 use Rattle.std.proofs.lemmas.Bool.Decides.{nat_tests, Decides-int_eq}
 use Rattle.std.proofs.lemmas.List.{length-map}
@@ -108,8 +109,10 @@ alike_none_out xs ys e = subst (λ zs. outputs_difference xs zs ≡ None) (sym e
 
 -- nothing differs exactly where the signature fits
 
-pub fitting : (model other : Signature) → inputs_difference model.inputs other.inputs ≡ None → outputs_difference model.outputs other.outputs ≡ None → IsFitting model other
-fitting model other i o = let h = none_differs model.inputs other.inputs i in record { names = h.0; ranges = h.1; outputs = none_differs_out model.outputs other.outputs o }
+pub fitting : (model other : Signature) → inputs_difference model.inputs other.inputs ≡ None
+    → outputs_difference model.outputs other.outputs ≡ None → IsFitting model other
+fitting model other i o = let h = none_differs model.inputs other.inputs i in
+    record { names = h.0; ranges = h.1; outputs = none_differs_out model.outputs other.outputs o }
 
 pub unfit_inputs : (model other : Signature) (u : Unfit) → inputs_difference model.inputs other.inputs ≡ Some u → IsFitting model other → ⊥
 unfit_inputs model other u e fit = let h = alike_none model.inputs other.inputs (fit.names, fit.ranges) in cc
@@ -119,10 +122,12 @@ unfit_outputs model other u e fit = let h = alike_none_out model.outputs other.o
 
 -- what is told of the outputs, once the inputs are alike
 
-pub fits_after : (model other : Signature) (xs ys : List (List ℕ)) (result : Result (Unit {0}) Unfit) → xs ≡ model.outputs → ys ≡ other.outputs → inputs_difference model.inputs other.inputs ≡ None → Tells (outputs_difference xs ys) result → IfOk result (λ u. IsFitting model other)
+pub fits_after : (model other : Signature) (xs ys : List (List ℕ)) (result : Result (Unit {0}) Unfit) → xs ≡ model.outputs → ys ≡ other.outputs
+    → inputs_difference model.inputs other.inputs ≡ None → Tells (outputs_difference xs ys) result → IfOk result (λ u. IsFitting model other)
 fits_after model other xs ys (Ok u) p q i told = fitting model other i ((λ j. outputs_difference (sym p j) (sym q j)) ∙ told)
 fits_after model other xs ys (Err unfit) p q i told = tt
 
-pub unfit_after : (model other : Signature) (xs ys : List (List ℕ)) (result : Result (Unit {0}) Unfit) → xs ≡ model.outputs → ys ≡ other.outputs → Tells (outputs_difference xs ys) result → IfErr result (λ unfit. IsFitting model other → ⊥)
+pub unfit_after : (model other : Signature) (xs ys : List (List ℕ)) (result : Result (Unit {0}) Unfit) → xs ≡ model.outputs → ys ≡ other.outputs
+    → Tells (outputs_difference xs ys) result → IfErr result (λ unfit. IsFitting model other → ⊥)
 unfit_after model other xs ys (Ok u) p q told = tt
 unfit_after model other xs ys (Err unfit) p q told = unfit_outputs model other unfit ((λ j. outputs_difference (sym p j) (sym q j)) ∙ told)

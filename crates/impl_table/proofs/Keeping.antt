@@ -1,6 +1,8 @@
 -- What everything that was declared keeps, line after line.
-use Rattle.std.proofs.Common.{◌≡◌, ℕ, zero, suc, ◌+◌, ◌<◌, ◌≤◌, Bool, true, false, not, ◌&&◌, ◌||◌, cond, List, [], ◌∷◌, ◌++◌, length, map, Option, Some, None, refl, sym, ◌∙◌, ap, subst, arith, length-append}
-use Rattle.std.specs.Prelude.{ℤ, ◌≤ℤ◌, if◌then◌else◌, ◌==◌, nat_lt, nat_le, int_lt, Result, Ok, Err, OnOk, is_some, option_map, unwrap_or, unsigned_abs, position}
+use Rattle.std.proofs.Common.{◌≡◌, ℕ, zero, suc, ◌+◌, ◌<◌, ◌≤◌, Bool, true, false, not, ◌&&◌, ◌||◌, cond, List, [], ◌∷◌, ◌++◌, length, map}
+use Rattle.std.proofs.Common.{Option, Some, None, refl, sym, ◌∙◌, ap, subst, arith, length-append}
+use Rattle.std.specs.Prelude.{ℤ, ◌≤ℤ◌, if◌then◌else◌, ◌==◌, nat_lt, nat_le, int_lt, Result, Ok, Err, OnOk, is_some, option_map, unwrap_or}
+use Rattle.std.specs.Prelude.{unsigned_abs, position}
 use Rattle.std.specs.List.{All}
 use Rattle.std.specs.Option.{ForSome, option_map_or}
 use Rattle.std.proofs.lemmas.Bool.Decides.{nat_tests}
@@ -28,7 +30,7 @@ use Rattle.chart_syntax.specs.declared.error.Kind.TheVariants as kind
 use Rattle.chart_syntax.specs.declared.error.Which.TheVariants as which
 use Rattle.chart_syntax.specs.declared.error.Refusal.{Refusal}
 use Rattle.chart_syntax.specs.declared.error.Refusal.TheVariants.{Fault, Limit}
-use Rattle.chart_syntax.specs.Collect.{or_else}
+use Rattle.line_tokens.specs.Limits.{or_else}
 use Rattle.chart_syntax.specs.Checks.{fault_check, limit_check}
 use Rattle.impl_table.specs.declared.form.StateForm.{StateForm}
 use Rattle.impl_table.specs.declared.form.RowForm.{RowForm}
@@ -40,7 +42,10 @@ use Rattle.impl_table.specs.declared.table.Row.{Row}
 use Rattle.impl_table.specs.Forms as forms
 use Rattle.impl_table.specs.Forms.{IsTableForm, IsSmallTableForm}
 use Rattle.impl_table.specs.Table.{IsRow}
-use Rattle.impl_table.specs.Reading.{start, group_of, is_version, version_check, word_check, order_check, form_check, is_formed, front_check, comparisons_check, names_check, range_check, count_check, said_check, some_check, line_check, state_check, when_check, state_of, scope_of, state_in, row_in, reply_of, next, some_next, next_view, view_check, TableView, IsTableView, TakesRow}
+use Rattle.impl_table.specs.Reading.{start, group_of, is_version, version_check, word_check, order_check, form_check, is_formed, front_check}
+use Rattle.impl_table.specs.Reading.{comparisons_check, names_check, range_check, count_check, said_check, some_check, line_check, state_check}
+use Rattle.impl_table.specs.Reading.{when_check, state_of, scope_of, state_in, row_in, reply_of, next, some_next, next_view, view_check}
+use Rattle.impl_table.specs.Reading.{TableView, IsTableView, TakesRow}
 use Rattle.impl_table.specs.inside.Lines.{HasRange, AreFew, IsPartial, Declares}
 use Rattle.impl_table.proofs.Rows.{first_word, begins}
 
@@ -76,7 +81,8 @@ all_of_none P [] none = All-nil P
 all_of_none P (x ∷ xs) none = absurd (none (omega arith))
 
 -- where the first word is that of a form
-pub head_of : (line : List ℕ) (seen : ParsedLine TableForm) (said : TableForm) → IsTableView line (Ok (Some seen)) → seen.form ≡ Some said → seen.head ≡ Some (first_word said)
+pub head_of : (line : List ℕ) (seen : ParsedLine TableForm) (said : TableForm) → IsTableView line (Ok (Some seen)) → seen.form ≡ Some said
+    → seen.head ≡ Some (first_word said)
 head_of line seen said view e =
     let ts = view.first ∷ view.more in
     let is : IsTableForm ts said = subst (IsFormed IsTableForm ts) e view.says.form in
@@ -101,7 +107,8 @@ not_false : (b : Bool) → not b ≡ false → b ≡ true
 not_false true e = refl
 not_false false e = absurd (cc)
 
-pub placed : (s : Declared) (line : List ℕ) (seen : ParsedLine TableForm) (said : TableForm) → IsTableView line (Ok (Some seen)) → seen.form ≡ Some said → line_check s seen ≡ None → IsPlaced s said
+pub placed : (s : Declared) (line : List ℕ) (seen : ParsedLine TableForm) (said : TableForm) → IsTableView line (Ok (Some seen))
+    → seen.form ≡ Some said → line_check s seen ≡ None → IsPlaced s said
 placed s line seen said view e none =
     let head = head_of line seen said view e in
     let front = or_none (front_check s seen) (some_check s seen.form) none in
@@ -113,17 +120,30 @@ placed s line seen said view e none =
           let begun = begun_if s.begun (is_version seen.form) a.0 (ap is_version e ∙ other) in
           let less = order_if s.begun (nat_lt (group_of seen.head) s.group) c.0 begun in
           subst (λ h. s.group ≤ group_of h) head (not_above s.group (group_of seen.head) less);
-      formed = ap (is_formed (length s.outputs)) (sym e) ∙ not_false (is_formed (length s.outputs) seen.form) (if_none (not (is_formed (length s.outputs) seen.form)) (Fault kind.Form) c.1);
+      formed = ap (is_formed (length s.outputs)) (sym e) ∙ not_false (is_formed (length s.outputs) seen.form)
+          (if_none (not (is_formed (length s.outputs) seen.form)) (Fault kind.Form) c.1);
       passes = subst (λ o. some_check s o ≡ None) e front.1;
     }
 
-partial_input : (s : Declared) (f : InputForm) → IsPartial s → s.group ≤ 1 → IsSmallTableForm (form.Input f) → range_check (form.Input f) ≡ None → count_check s (form.Input f) ≡ None → IsPartial (next s (form.Input f))
+partial_input : (s : Declared) (f : InputForm) → IsPartial s → s.group ≤ 1 → IsSmallTableForm (form.Input f) → range_check (form.Input f) ≡ None
+    → count_check s (form.Input f) ≡ None → IsPartial (next s (form.Input f))
 partial_input s f p early small range count =
     let no_states : 0 < length s.states → ⊥ = λ h. let g = p.states_behind h in omega (arith, g, early) in
     let no_rows : 0 < length s.rows → ⊥ = λ h. let g = p.rows_behind h in omega (arith, g, early) in
     record {
-      few = record { inputs = one_more s.inputs f 6 (below (length s.inputs) 6 (if_none (nat_le 6 (length s.inputs)) (Limit which.Inputs) count)); outputs = p.few.outputs; states = p.few.states; rows = p.few.rows };
-      ranges = push HasRange s.inputs f p.ranges (record { ordered = ordered_range (value_of f.lo) (value_of f.hi) (if_none (int_lt (value_of f.hi) (value_of f.lo)) (Fault kind.Range) range); low = small_value f.lo small.0; high = small_value f.hi small.1 });
+      few = record {
+        inputs = one_more s.inputs f 6 (below (length s.inputs) 6 (if_none (nat_le 6 (length s.inputs)) (Limit which.Inputs) count));
+        outputs = p.few.outputs;
+        states = p.few.states;
+        rows = p.few.rows;
+      };
+      ranges = push HasRange s.inputs f p.ranges
+          (record {
+            ordered = ordered_range (value_of f.lo) (value_of f.hi)
+                (if_none (int_lt (value_of f.hi) (value_of f.lo)) (Fault kind.Range) range);
+            low = small_value f.lo small.0;
+            high = small_value f.hi small.1;
+          });
       replies = p.replies;
       moves = all_of_none (IsRow (length (s.inputs ++ f ∷ [])) (length s.outputs) (length s.states)) s.rows no_rows;
       states_behind = λ h. absurd (no_states h);
@@ -135,7 +155,13 @@ partial_output s name p early count =
     let no_states : 0 < length s.states → ⊥ = λ h. let g = p.states_behind h in omega (arith, g, early) in
     let no_rows : 0 < length s.rows → ⊥ = λ h. let g = p.rows_behind h in omega (arith, g, early) in
     record {
-      few = record { inputs = p.few.inputs; outputs = one_more s.outputs name 8 (below (length s.outputs) 8 (if_none (nat_le 8 (length s.outputs)) (Limit which.Outputs) count)); states = p.few.states; rows = p.few.rows };
+      few = record {
+        inputs = p.few.inputs;
+        outputs = one_more s.outputs name 8
+            (below (length s.outputs) 8 (if_none (nat_le 8 (length s.outputs)) (Limit which.Outputs) count));
+        states = p.few.states;
+        rows = p.few.rows;
+      };
       ranges = p.ranges;
       replies = all_of_none (λ (state : TableState). length state.reply ≡ length (s.outputs ++ name ∷ [])) s.states no_states;
       moves = all_of_none (IsRow (length s.inputs) (length (s.outputs ++ name ∷ [])) (length s.states)) s.rows no_rows;
@@ -146,13 +172,21 @@ partial_output s name p early count =
 same_count : (n m : ℕ) → (n == m) ≡ true → n ≡ m
 same_count n m e = grind (arith, nat_tests)
 
-partial_state : (s : Declared) (f : StateForm) → IsPartial s → s.group ≤ 3 → is_formed (length s.outputs) (Some (form.State f)) ≡ true → count_check s (form.State f) ≡ None → IsPartial (next s (form.State f))
+partial_state : (s : Declared) (f : StateForm) → IsPartial s → s.group ≤ 3 → is_formed (length s.outputs) (Some (form.State f)) ≡ true
+    → count_check s (form.State f) ≡ None → IsPartial (next s (form.State f))
 partial_state s f p early formed count =
     let no_rows : 0 < length s.rows → ⊥ = λ h. let g = p.rows_behind h in omega (arith, g, early) in
     record {
-      few = record { inputs = p.few.inputs; outputs = p.few.outputs; states = one_more s.states (state_in f) 1024 (below (length s.states) 1024 (if_none (nat_le 1024 (length s.states)) (Limit which.States) count)); rows = p.few.rows };
+      few = record {
+        inputs = p.few.inputs;
+        outputs = p.few.outputs;
+        states = one_more s.states (state_in f) 1024 (below (length s.states) 1024
+            (if_none (nat_le 1024 (length s.states)) (Limit which.States) count));
+        rows = p.few.rows;
+      };
       ranges = p.ranges;
-      replies = push (λ (state : TableState). length state.reply ≡ length s.outputs) s.states (state_in f) p.replies (length-map f.reply forms.value_of ∙ same_count (length f.reply) (length s.outputs) formed);
+      replies = push (λ (state : TableState). length state.reply ≡ length s.outputs) s.states (state_in f) p.replies
+          (length-map f.reply forms.value_of ∙ same_count (length f.reply) (length s.outputs) formed);
       moves = all_of_none (IsRow (length s.inputs) (length s.outputs) (length (s.states ++ state_in f ∷ []))) s.rows no_rows;
       states_behind = λ h. omega arith;
       rows_behind = λ h. absurd (no_rows h);
@@ -164,25 +198,36 @@ found_if None n h e = absurd (cc)
 
 -- a name that passes is that of a state
 found : (s : Declared) (name : List ℕ) → state_check s name ≡ None → unwrap_or (state_of s name) 0 < length s.states
-found s name e = found_if (state_of s name) (length s.states) (λ k h. (position-Some (λ (state : TableState). is_same name state.name) s.states k (record { name = []; reply = [] }) h).0) e
+found s name e = found_if (state_of s name) (length s.states)
+    (λ k h. (position-Some (λ (state : TableState). is_same name state.name) s.states k (record { name = []; reply = [] }) h).0) e
 
 -- the law on guards of lines
 abbrev pub GuardsFit : Type 0
-GuardsFit = (s : Names) (width : ℕ) (guard : Tree) → width ≤ 6 → IsSmallGuard guard → tests_of guard ≤ 64 → IsGuard width (length s.memories) (guard_of s width guard)
+GuardsFit = (s : Names) (width : ℕ) (guard : Tree) → width ≤ 6 → IsSmallGuard guard → tests_of guard ≤ 64
+    → IsGuard width (length s.memories) (guard_of s width guard)
 
-guard_kept : GuardsFit → (s : Declared) (guard : Option Tree) → length s.inputs ≤ 6 → ForSome guard IsSmallGuard → limit_check (nat_lt 64 (option_map_or tests_of guard 0)) which.Comparisons ≡ None
+guard_kept : GuardsFit → (s : Declared) (guard : Option Tree) → length s.inputs ≤ 6 → ForSome guard IsSmallGuard
+    → limit_check (nat_lt 64 (option_map_or tests_of guard 0)) which.Comparisons ≡ None
     → ForSome (option_map (guard_of (scope_of s) (length s.inputs)) guard) (IsGuard (length s.inputs) 0)
 guard_kept fit s None few small tests = λ g e. absurd (cc)
 guard_kept fit s (Some guard) few small tests = λ g e.
     let same : guard_of (scope_of s) (length s.inputs) guard ≡ g = cc in
-    subst (IsGuard (length s.inputs) 0) same (fit (scope_of s) (length s.inputs) guard few (small guard refl) (not_above (tests_of guard) 64 (if_none (nat_lt 64 (tests_of guard)) (Limit which.Comparisons) tests)))
+    subst (IsGuard (length s.inputs) 0) same (fit (scope_of s) (length s.inputs) guard few (small guard refl)
+    (not_above (tests_of guard) 64 (if_none (nat_lt 64 (tests_of guard)) (Limit which.Comparisons) tests)))
 
-partial_row : GuardsFit → (s : Declared) (f : RowForm) → IsPartial s → is_formed (length s.outputs) (Some (form.Row f)) ≡ true → IsSmallTableForm (form.Row f) → comparisons_check (form.Row f) ≡ None → names_check s (form.Row f) ≡ None → count_check s (form.Row f) ≡ None → IsPartial (next s (form.Row f))
+partial_row : GuardsFit → (s : Declared) (f : RowForm) → IsPartial s → is_formed (length s.outputs) (Some (form.Row f)) ≡ true
+    → IsSmallTableForm (form.Row f) → comparisons_check (form.Row f) ≡ None → names_check s (form.Row f) ≡ None
+    → count_check s (form.Row f) ≡ None → IsPartial (next s (form.Row f))
 partial_row fit s f p formed small tests names count =
     let a = or_none (state_check s f.from) (or_else (when_check s f.guard) (state_check s f.to)) names in
     let b = or_none (when_check s f.guard) (state_check s f.to) a.1 in
     record {
-      few = record { inputs = p.few.inputs; outputs = p.few.outputs; states = p.few.states; rows = one_more s.rows (row_in s f) 4096 (below (length s.rows) 4096 (if_none (nat_le 4096 (length s.rows)) (Limit which.Rows) count)) };
+      few = record {
+        inputs = p.few.inputs;
+        outputs = p.few.outputs;
+        states = p.few.states;
+        rows = one_more s.rows (row_in s f) 4096 (below (length s.rows) 4096 (if_none (nat_le 4096 (length s.rows)) (Limit which.Rows) count));
+      };
       ranges = p.ranges;
       replies = p.replies;
       moves = push (IsRow (length s.inputs) (length s.outputs) (length s.states)) s.rows (row_in s f) p.moves (record {
@@ -196,7 +241,15 @@ partial_row fit s f p formed small tests names count =
     }
 
 pub partial_said : GuardsFit → (s : Declared) (said : TableForm) → IsPartial s → IsPlaced s said → IsSmallTableForm said → IsPartial (next s said)
-partial_said fit s (form.Version n) p h small = record { few = record { inputs = p.few.inputs; outputs = p.few.outputs; states = p.few.states; rows = p.few.rows }; ranges = p.ranges; replies = p.replies; moves = p.moves; states_behind = p.states_behind; rows_behind = p.rows_behind }
+partial_said fit s (form.Version n) p h small =
+    record {
+      few = record { inputs = p.few.inputs; outputs = p.few.outputs; states = p.few.states; rows = p.few.rows };
+      ranges = p.ranges;
+      replies = p.replies;
+      moves = p.moves;
+      states_behind = p.states_behind;
+      rows_behind = p.rows_behind;
+    }
 partial_said fit s (form.Input f) p h small =
     let b = or_none (names_check s (form.Input f)) (or_else (range_check (form.Input f)) (count_check s (form.Input f))) h.passes in
     let c = or_none (range_check (form.Input f)) (count_check s (form.Input f)) b.1 in
@@ -216,11 +269,13 @@ partial_said fit s (form.Row f) p h small =
 abbrev pub IsSmallAll : Type 0
 IsSmallAll = (line : List ℕ) (seen : ParsedLine TableForm) → IsTableView line (Ok (Some seen)) → ForSome seen.form IsSmallTableForm
 
-partial_form : IsSmallAll → GuardsFit → (s : Declared) (line : List ℕ) (seen : ParsedLine TableForm) (o : Option TableForm) → seen.form ≡ o → IsPartial s → IsTableView line (Ok (Some seen)) → line_check s seen ≡ None → IsPartial (some_next s o)
+partial_form : IsSmallAll → GuardsFit → (s : Declared) (line : List ℕ) (seen : ParsedLine TableForm) (o : Option TableForm) → seen.form ≡ o
+    → IsPartial s → IsTableView line (Ok (Some seen)) → line_check s seen ≡ None → IsPartial (some_next s o)
 partial_form small fit s line seen None e p view none = p
 partial_form small fit s line seen (Some said) e p view none = partial_said fit s said p (placed s line seen said view e none) (small line seen view said e)
 
-pub partial_view : IsSmallAll → GuardsFit → (s : Declared) (line : List ℕ) (view : TableView) → IsPartial s → IsTableView line view → view_check s view ≡ None → IsPartial (next_view s view)
+pub partial_view : IsSmallAll → GuardsFit → (s : Declared) (line : List ℕ) (view : TableView) → IsPartial s → IsTableView line view
+    → view_check s view ≡ None → IsPartial (next_view s view)
 partial_view small fit s line (Err error) p is none = p
 partial_view small fit s line (Ok None) p is none = p
 partial_view small fit s line (Ok (Some seen)) p is none = partial_form small fit s line seen seen.form refl p is none
@@ -239,11 +294,14 @@ nothing_read = record {
 }
 
 -- what a line leads to, by what it says
-pub takes_after : (s t : Declared) (line : List ℕ) (seen : ParsedLine TableForm) (result : Result (Unit {0}) (LineError Refusal)) → IsTableView line (Ok (Some seen)) → Declares (line_check s seen) (some_next s seen.form) t result → Takes TakesRow s t line result
+pub takes_after : (s t : Declared) (line : List ℕ) (seen : ParsedLine TableForm) (result : Result (Unit {0}) (LineError Refusal))
+    → IsTableView line (Ok (Some seen)) → Declares (line_check s seen) (some_next s seen.form) t result → Takes TakesRow s t line result
 takes_after s t line seen (Ok u) view d = (Ok (Some seen), view, d.0, d.1)
 takes_after s t line seen (Err (Refused refusal)) view d = (Ok (Some seen), view, d)
 takes_after s t line seen (Err Memory) view d = tt
 
-pub kept_after : IsSmallAll → GuardsFit → (s t : Declared) (line : List ℕ) (seen : ParsedLine TableForm) (result : Result (Unit {0}) (LineError Refusal)) → IsPartial s → IsTableView line (Ok (Some seen)) → Declares (line_check s seen) (some_next s seen.form) t result → OnOk result (IsPartial t)
+pub kept_after : IsSmallAll → GuardsFit → (s t : Declared) (line : List ℕ) (seen : ParsedLine TableForm)
+    (result : Result (Unit {0}) (LineError Refusal)) → IsPartial s → IsTableView line (Ok (Some seen))
+    → Declares (line_check s seen) (some_next s seen.form) t result → OnOk result (IsPartial t)
 kept_after small fit s t line seen (Ok u) p view d = subst IsPartial (sym d.1) (partial_view small fit s line (Ok (Some seen)) p view d.0)
 kept_after small fit s t line seen (Err error) p view d = tt

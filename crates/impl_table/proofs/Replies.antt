@@ -28,7 +28,8 @@ pub moved : (ts : List Lexeme) (i j : ℕ) → i ≡ j → Ends ts i → Ends ts
 moved ts i j e h = subst (Ends ts) e h
 
 -- where no number follows, the numbers are the same
-pub one_reply : (ts : List Lexeme) (i : ℕ) (xs ys : List ReplyNumber) → IsReply ts i xs → IsReply ts i ys → Ends ts (i + reply_size xs) → Ends ts (i + reply_size ys) → xs ≡ ys
+pub one_reply : (ts : List Lexeme) (i : ℕ) (xs ys : List ReplyNumber) → IsReply ts i xs → IsReply ts i ys → Ends ts (i + reply_size xs)
+    → Ends ts (i + reply_size ys) → xs ≡ ys
 one_reply ts i [] [] p q s t = refl
 one_reply ts i [] (y ∷ ys) p q s t = absurd (moved ts (i + 0) i (omega arith) s y q.0)
 one_reply ts i (x ∷ xs) [] p q s t = absurd (moved ts (i + 0) i (omega arith) t x p.0)
@@ -60,7 +61,8 @@ pub ends_with_word : (ts : List Lexeme) (i : ℕ) (k : Keyword) → Has ts i (Re
 ends_with_word ts i k has (Plain n) is = let p : None ≡ Some n = sym (ap literal_in has) ∙ is in cc
 ends_with_word ts i k has (Negated n) is = let p = is.0 in cc
 
-reply_joined : (ts : List Lexeme) (i : ℕ) (xs : List ReplyNumber) (x : ReplyNumber) → IsReply ts i xs → IsReplyNumber ts (i + reply_size xs) x → IsReply ts i (xs ++ x ∷ [])
+reply_joined : (ts : List Lexeme) (i : ℕ) (xs : List ReplyNumber) (x : ReplyNumber) → IsReply ts i xs → IsReplyNumber ts (i + reply_size xs) x
+    → IsReply ts i (xs ++ x ∷ [])
 reply_joined ts i [] x p h = (subst (λ k. IsReplyNumber ts k x) (omega arith) h, tt)
 reply_joined ts i (y ∷ ys) x p h = (p.0, reply_joined ts (i + number_size y) ys x p.1 (subst (λ k. IsReplyNumber ts k x) (omega arith) h))
 
@@ -76,7 +78,8 @@ pub record IsFront (ts : List Lexeme) (i end : ℕ) (reply : List ReplyNumber) :
 pub front_begun : (ts : List Lexeme) (i : ℕ) → IsFront ts i i []
 front_begun ts i = record { spelled = tt; ends = omega arith }
 
-pub front_more : (ts : List Lexeme) (i end : ℕ) (xs : List ReplyNumber) (x : ReplyNumber) → IsFront ts i end xs → IsReplyNumber ts end x → IsFront ts i (end + number_size x) (xs ++ x ∷ [])
+pub front_more : (ts : List Lexeme) (i end : ℕ) (xs : List ReplyNumber) (x : ReplyNumber) → IsFront ts i end xs → IsReplyNumber ts end x
+    → IsFront ts i (end + number_size x) (xs ++ x ∷ [])
 front_more ts i end xs x front is = record {
   spelled = reply_joined ts i xs x front.spelled (subst (λ k. IsReplyNumber ts k x) front.ends is);
   ends = let e = size_joined xs x in let f = front.ends in omega (arith, e, f);

@@ -35,10 +35,13 @@ pub row_failed : (ts : List Lexeme) (e : FormError) → GivesWhen (IsWhen ts) wh
 row_failed ts Form none = λ f h. none h.when h.guarded (stopped in_guard ts (2 + when_size h.when) (Reserved keyword.Gives) h.gives refl)
 row_failed ts Memory none = tt
 
-pub row_place : (ts : List Lexeme) (at : ℕ) (w : Option Guard) (f : RowForm) (h : IsRowForm ts f) → IsOnly (IsWhen ts) when_size in_guard ts 2 at w → 2 + when_size h.when ≡ at
-row_place ts at w f h read = ap (λ x. 2 + when_size x) (read.only h.when h.guarded (stopped in_guard ts (2 + when_size h.when) (Reserved keyword.Gives) h.gives refl)) ∙ sym read.ends
+pub row_place : (ts : List Lexeme) (at : ℕ) (w : Option Guard) (f : RowForm) (h : IsRowForm ts f)
+    → IsOnly (IsWhen ts) when_size in_guard ts 2 at w → 2 + when_size h.when ≡ at
+row_place ts at w f h read = ap (λ x. 2 + when_size x)
+    (read.only h.when h.guarded (stopped in_guard ts (2 + when_size h.when) (Reserved keyword.Gives) h.gives refl)) ∙ sym read.ends
 
-pub row_gives : (ts : List Lexeme) (at : ℕ) (w : Option Guard) (f : RowForm) → IsOnly (IsWhen ts) when_size in_guard ts 2 at w → IsRowForm ts f → Has ts at (Reserved keyword.Gives)
+pub row_gives : (ts : List Lexeme) (at : ℕ) (w : Option Guard) (f : RowForm) → IsOnly (IsWhen ts) when_size in_guard ts 2 at w → IsRowForm ts f
+    → Has ts at (Reserved keyword.Gives)
 row_gives ts at w f read h = subst (λ i. Has ts i (Reserved keyword.Gives)) (row_place ts at w f h read) h.gives
 
 -- what is read of a row before `go`
@@ -47,29 +50,35 @@ pub record IsReadToGo (ts : List Lexeme) (w : Option Guard) (reply : List ReplyN
   pub guarded : IsOnly (IsWhen ts) when_size in_guard ts 2 at w
   pub whole : IsWholeReply ts (at + 1) end reply
 
-row_reply : (ts : List Lexeme) (w : Option Guard) (reply : List ReplyNumber) (end : ℕ) (f : RowForm) → IsReadToGo ts w reply end → IsRowForm ts f → f.reply ≡ reply
+row_reply : (ts : List Lexeme) (w : Option Guard) (reply : List ReplyNumber) (end : ℕ) (f : RowForm) → IsReadToGo ts w reply end → IsRowForm ts f
+    → f.reply ≡ reply
 row_reply ts w reply end f read h =
     let p = row_place ts read.at w f h read.guarded in
     reply_same ts (read.at + 1) end reply f.reply read.whole (subst (λ i. IsReply ts (i + 1) f.reply) p h.reply)
     (subst (λ i. Ends ts (i + 1 + reply_size f.reply)) p (ends_with_word ts (2 + when_size h.when + 1 + reply_size f.reply) keyword.Go h.go))
 
-pub row_end : (ts : List Lexeme) (w : Option Guard) (reply : List ReplyNumber) (end : ℕ) (f : RowForm) → IsReadToGo ts w reply end → (h : IsRowForm ts f) → 2 + when_size h.when + 1 + reply_size f.reply ≡ end
+pub row_end : (ts : List Lexeme) (w : Option Guard) (reply : List ReplyNumber) (end : ℕ) (f : RowForm) → IsReadToGo ts w reply end
+    → (h : IsRowForm ts f) → 2 + when_size h.when + 1 + reply_size f.reply ≡ end
 row_end ts w reply end f read h =
     let p = row_place ts read.at w f h read.guarded in
     let e = row_reply ts w reply end f read h in
     (λ j. p j + 1 + reply_size (e j)) ∙ sym read.whole.ends
 
-pub row_go : (ts : List Lexeme) (w : Option Guard) (reply : List ReplyNumber) (end : ℕ) (f : RowForm) → IsReadToGo ts w reply end → IsRowForm ts f → Has ts end (Reserved keyword.Go)
+pub row_go : (ts : List Lexeme) (w : Option Guard) (reply : List ReplyNumber) (end : ℕ) (f : RowForm) → IsReadToGo ts w reply end → IsRowForm ts f
+    → Has ts end (Reserved keyword.Go)
 row_go ts w reply end f read h = subst (λ i. Has ts i (Reserved keyword.Go)) (row_end ts w reply end f read h) h.go
 
-pub row_to : (ts : List Lexeme) (w : Option Guard) (reply : List ReplyNumber) (end : ℕ) (f : RowForm) → IsReadToGo ts w reply end → IsRowForm ts f → Has ts (end + 1) (Named f.to)
+pub row_to : (ts : List Lexeme) (w : Option Guard) (reply : List ReplyNumber) (end : ℕ) (f : RowForm) → IsReadToGo ts w reply end → IsRowForm ts f
+    → Has ts (end + 1) (Named f.to)
 row_to ts w reply end f read h = subst (λ i. Has ts (i + 1) (Named f.to)) (row_end ts w reply end f read h) h.to
 
-pub row_length : (ts : List Lexeme) (w : Option Guard) (reply : List ReplyNumber) (end : ℕ) (f : RowForm) → IsReadToGo ts w reply end → IsRowForm ts f → length ts ≡ end + 2
+pub row_length : (ts : List Lexeme) (w : Option Guard) (reply : List ReplyNumber) (end : ℕ) (f : RowForm) → IsReadToGo ts w reply end
+    → IsRowForm ts f → length ts ≡ end + 2
 row_length ts w reply end f read h = h.whole ∙ ap (λ i. i + 2) (row_end ts w reply end f read h)
 
 -- a row of the parts that were read
-pub row_read : (ts : List Lexeme) (w : Option Guard) (end : ℕ) (f : RowForm) → (read : IsReadToGo ts w f.reply end) → Has ts 0 (Reserved keyword.Row) → Has ts 1 (Named f.from) → f.guard ≡ option_map guard_tree w
+pub row_read : (ts : List Lexeme) (w : Option Guard) (end : ℕ) (f : RowForm) → (read : IsReadToGo ts w f.reply end)
+    → Has ts 0 (Reserved keyword.Row) → Has ts 1 (Named f.from) → f.guard ≡ option_map guard_tree w
     → Has ts read.at (Reserved keyword.Gives) → Has ts end (Reserved keyword.Go) → Has ts (end + 1) (Named f.to) → length ts ≡ end + 2 → IsRowForm ts f
 row_read ts w end f read head from guard gives go to whole =
     let p = read.guarded.ends in
@@ -96,7 +105,8 @@ one_state ts a b p q =
 one_row : (ts : List Lexeme) (a b : RowForm) → IsRowForm ts a → IsRowForm ts b → a ≡ b
 one_row ts a b p q =
     let n = one_name ts 1 a.from b.from p.from q.from in
-    let w = one_when ts 2 p.when q.when p.guarded q.guarded (stopped in_guard ts (2 + when_size p.when) (Reserved keyword.Gives) p.gives refl) (stopped in_guard ts (2 + when_size q.when) (Reserved keyword.Gives) q.gives refl) in
+    let w = one_when ts 2 p.when q.when p.guarded q.guarded (stopped in_guard ts (2 + when_size p.when) (Reserved keyword.Gives) p.gives refl)
+    (stopped in_guard ts (2 + when_size q.when) (Reserved keyword.Gives) q.gives refl) in
     let g : a.guard ≡ b.guard = p.guard ∙ ap (option_map guard_tree) w ∙ sym q.guard in
     let c : 2 + when_size q.when ≡ 2 + when_size p.when = ap (λ x. 2 + when_size x) (sym w) in
     let r = one_reply ts (2 + when_size p.when + 1) a.reply b.reply p.reply (subst (λ i. IsReply ts (i + 1) b.reply) c q.reply)

@@ -1,5 +1,6 @@
 -- What a line of a table says is as small as the limits on its tokens leave it.
-use Rattle.std.proofs.Common.{◌≡◌, ℕ, zero, suc, ◌+◌, ◌-◌, ◌≤◌, Bool, true, false, ◌||◌, List, [], ◌∷◌, length, map, codes, Option, Some, None, refl, sym, ◌∙◌, ap, subst, arith, pos}
+use Rattle.std.proofs.Common.{◌≡◌, ℕ, zero, suc, ◌+◌, ◌-◌, ◌≤◌, Bool, true, false, ◌||◌, List, [], ◌∷◌, length, map, codes, Option, Some, None}
+use Rattle.std.proofs.Common.{refl, sym, ◌∙◌, ap, subst, arith, pos}
 use Rattle.std.specs.Prelude.{if◌then◌else◌, ◌==◌, nat_le, int_lt, slice_get, option_map}
 use Rattle.std.specs.List.{All}
 use Rattle.std.specs.Char.{is_ascii_digit}
@@ -70,7 +71,8 @@ within_if : (b : Bool) (m z : ℕ) → int_lt (pos m) (pos z) ≡ b → (if b th
 within_if true m z e h = absurd (cc)
 within_if false m z e h = grind (arith, ints, nat_tests)
 
-small_number : (after : Bool) (z n size : ℕ) (bytes : List ℕ) → word_limit after (word.Number (pos z)) size ≡ None → literal_in (Some (meaning_of (word.Number (pos z)) bytes)) ≡ Some n → n ≤ 1000000000000
+small_number : (after : Bool) (z n size : ℕ) (bytes : List ℕ) → word_limit after (word.Number (pos z)) size ≡ None
+    → literal_in (Some (meaning_of (word.Number (pos z)) bytes)) ≡ Some n → n ≤ 1000000000000
 small_number after z n size bytes none e =
     let within = within_if (int_lt (pos (largest_literal after)) (pos z)) (largest_literal after) z refl none in
     let most = largest after in
@@ -78,18 +80,22 @@ small_number after z n size bytes none e =
     omega (arith, within, most, same)
 
 -- the number that a token means is within the limit
-small_word : (name digit : Bool) (after : Bool) (z s n size : ℕ) (bytes : List ℕ) → word_limit after (if name then word.Name else if digit then word.Number (pos z) else word.Symbol s) size ≡ None
+small_word : (name digit : Bool) (after : Bool) (z s n size : ℕ) (bytes : List ℕ)
+    → word_limit after (if name then word.Name else if digit then word.Number (pos z) else word.Symbol s) size ≡ None
     → literal_in (Some (meaning_of (if name then word.Name else if digit then word.Number (pos z) else word.Symbol s) bytes)) ≡ Some n → n ≤ 1000000000000
 small_word true digit after z s n size bytes none e = absurd (no_literal (name_meaning (keyword_of bytes) bytes) n (name_other (keyword_of bytes) bytes) e)
 small_word false true after z s n size bytes none e = small_number after z n size bytes none e
 small_word false false after z s n size bytes none e = absurd (no_literal (symbol_of s) n (symbol_other s) e)
 
-small_token : (line : List ℕ) (p : Place) (after : Bool) (n : ℕ) → token_limit after (token_at line p) ≡ None → literal_in (Some (lexeme_of line (token_at line p))) ≡ Some n → n ≤ 1000000000000
+small_token : (line : List ℕ) (p : Place) (after : Bool) (n : ℕ) → token_limit after (token_at line p) ≡ None
+    → literal_in (Some (lexeme_of line (token_at line p))) ≡ Some n → n ≤ 1000000000000
 small_token line p after n none e =
     let bytes = run line p.from p.to in
-    small_word (starts starts_name bytes) (starts is_ascii_digit bytes) after (decimal_value bytes) (symbol_number bytes) n (p.to - p.from) (spelling line (token_at line p)) none e
+    small_word (starts starts_name bytes) (starts is_ascii_digit bytes) after (decimal_value bytes) (symbol_number bytes) n (p.to - p.from)
+    (spelling line (token_at line p)) none e
 
-small_tokens : (line : List ℕ) (after : Bool) (ps : List Place) (i n : ℕ) → first_limit line after (map (token_at line) ps) ≡ None → literal_at (map (lexeme_of line) (map (token_at line) ps)) i ≡ Some n → n ≤ 1000000000000
+small_tokens : (line : List ℕ) (after : Bool) (ps : List Place) (i n : ℕ) → first_limit line after (map (token_at line) ps) ≡ None
+    → literal_at (map (lexeme_of line) (map (token_at line) ps)) i ≡ Some n → n ≤ 1000000000000
 small_tokens line after [] i n none e = absurd (cc)
 small_tokens line after (p ∷ ps) zero n none e =
     let t = token_at line p in
@@ -116,11 +122,16 @@ small_reply_number line ts i (Negated n) lexed h = small_literal line ts (i + 1)
 
 small_reply : (line : List ℕ) (ts : List Lexeme) (i : ℕ) (xs : List ReplyNumber) → IsLexed line ts → IsReply ts i xs → All IsSmallReplyNumber xs
 small_reply line ts i [] lexed h = All-nil IsSmallReplyNumber
-small_reply line ts i (x ∷ xs) lexed h = All-cons IsSmallReplyNumber x xs (small_reply_number line ts i x lexed h.0) (small_reply line ts (i + number_size x) xs lexed h.1)
+small_reply line ts i (x ∷ xs) lexed h = All-cons IsSmallReplyNumber x xs (small_reply_number line ts i x lexed h.0)
+    (small_reply line ts (i + number_size x) xs lexed h.1)
 
 pub small_table : (line : List ℕ) (ts : List Lexeme) (said : TableForm) → IsLexed line ts → IsTableForm ts said → IsSmallTableForm said
 small_table line ts (form.Version n) lexed h = tt
-small_table line ts (form.Input f) lexed h = let plain = plain_lexemes line ts lexed in (small_signed ts 2 f.lo plain h.2, small_signed ts (2 + signed_size f.lo) f.hi plain h.3)
+small_table line ts (form.Input f) lexed h = let plain = plain_lexemes line ts lexed in
+    (small_signed ts 2 f.lo plain h.2, small_signed ts (2 + signed_size f.lo) f.hi plain h.3)
 small_table line ts (form.Output name) lexed h = tt
 small_table line ts (form.State f) lexed h = small_reply line ts 3 f.reply lexed h.3
-small_table line ts (form.Row f) lexed h = (small_reply line ts _ f.reply lexed h.reply, small_when line ts h.when f.guard lexed (short_lexed line ts lexed) h.guarded h.guard)
+small_table line ts (form.Row f) lexed h = (
+  small_reply line ts _ f.reply lexed h.reply,
+  small_when line ts h.when f.guard lexed (short_lexed line ts lexed) h.guarded h.guard,
+)

@@ -38,7 +38,8 @@ or_false : (a b : Bool) → (a || b) ≡ false → (a ≡ false) × (b ≡ false
 or_false true b e = absurd (cc)
 or_false false b e = (refl, e)
 
-end_if : (begun missing : Bool) → (if not begun then Some (Fault kind.Version) else if missing then Some (Fault kind.Missing) else None) ≡ None → missing ≡ false
+end_if : (begun missing : Bool) → (if not begun then Some (Fault kind.Version) else if missing then Some (Fault kind.Missing) else None) ≡ None
+    → missing ≡ false
 end_if true true e = absurd (let h : Some (Fault kind.Missing) ≡ None = e in cc)
 end_if true false e = refl
 end_if false missing e = absurd (let h : Some (Fault kind.Version) ≡ None = e in cc)
@@ -58,14 +59,18 @@ same_length : (xs : List Input) (forms : List InputForm) → map bounds_of_input
 same_length xs forms e = sym (length-map xs bounds_of_input) ∙ ap length e ∙ length-map forms bounds_of_form
 
 -- as many inputs and outputs as a signature has
-pub inputs_fit : (s : Declared) (inputs : List Input) → IsPartial s → end_check s ≡ None → map bounds_of_input inputs ≡ map bounds_of_form s.inputs → IsCount 6 (length inputs)
-inputs_fit s inputs p e same = let n = same_length inputs s.inputs same in let full = (complete s e).inputs in let few = p.few.inputs in record { least = omega (arith, n, full); limit = omega (arith, n, few) }
+pub inputs_fit : (s : Declared) (inputs : List Input) → IsPartial s → end_check s ≡ None
+    → map bounds_of_input inputs ≡ map bounds_of_form s.inputs → IsCount 6 (length inputs)
+inputs_fit s inputs p e same = let n = same_length inputs s.inputs same in let full = (complete s e).inputs in let few = p.few.inputs in
+    record { least = omega (arith, n, full); limit = omega (arith, n, few) }
 
 pub outputs_fit : (s : Declared) (outputs : List (List ℕ)) → IsPartial s → end_check s ≡ None → outputs ≡ s.outputs → IsCount 8 (length outputs)
-outputs_fit s outputs p e same = let n = ap length same in let full = (complete s e).outputs in let few = p.few.outputs in record { least = omega (arith, n, full); limit = omega (arith, n, few) }
+outputs_fit s outputs p e same = let n = ap length same in let full = (complete s e).outputs in let few = p.few.outputs in
+    record { least = omega (arith, n, full); limit = omega (arith, n, few) }
 
 -- what was declared keeps what every table keeps
-pub is_table : (s : Declared) (signature : Signature) → IsPartial s → end_check s ≡ None → map bounds_of_input signature.inputs ≡ map bounds_of_form s.inputs → signature.outputs ≡ s.outputs → IsTable signature s.states s.rows
+pub is_table : (s : Declared) (signature : Signature) → IsPartial s → end_check s ≡ None
+    → map bounds_of_input signature.inputs ≡ map bounds_of_form s.inputs → signature.outputs ≡ s.outputs → IsTable signature s.states s.rows
 is_table s signature p e inputs outputs =
     let full = (complete s e).states in
     let i : length signature.inputs ≡ length s.inputs = same_length signature.inputs s.inputs inputs in
@@ -74,7 +79,8 @@ is_table s signature p e inputs outputs =
       few_states = record { least = full; limit = p.few.states };
       few_rows = p.few.rows;
       replies = subst (λ n. All (λ (state : TableState). length state.reply ≡ n) s.states) (sym o) p.replies;
-      moves = subst (λ n. All (IsRow n (length signature.outputs) (length s.states)) s.rows) (sym i) (subst (λ n. All (IsRow (length s.inputs) n (length s.states)) s.rows) (sym o) p.moves);
+      moves = subst (λ n. All (IsRow n (length signature.outputs) (length s.states)) s.rows) (sym i)
+          (subst (λ n. All (IsRow (length s.inputs) n (length s.states)) s.rows) (sym o) p.moves);
     }
 
 inputs_exist : (forms : List InputForm) → All HasRange forms → (inputs : List Input) × (map bounds_of_input inputs ≡ map bounds_of_form forms)
@@ -88,17 +94,29 @@ inputs_exist (form ∷ forms) h =
 pub exists : (s : Declared) → IsPartial s → end_check s ≡ None → ((table : Table) → IsContent s table → ⊥) → ⊥
 exists s p e none =
     let found = inputs_exist s.inputs p.ranges in
-    let signature : Signature = record { inputs = found.0; outputs = s.outputs; inputs_fit = inputs_fit s found.0 p e found.1; outputs_fit = outputs_fit s s.outputs p e refl } in
+    let signature : Signature = record {
+      inputs = found.0;
+      outputs = s.outputs;
+      inputs_fit = inputs_fit s found.0 p e found.1;
+      outputs_fit = outputs_fit s s.outputs p e refl;
+    } in
     let table : Table = record { signature = signature; states = s.states; rows = s.rows; kept = is_table s signature p e found.1 refl } in
     none table (record { inputs = found.1; outputs = refl; states = refl; rows = refl })
 
 same_input : (a b : Input) → bounds_of_input a ≡ bounds_of_input b → a ≡ b
-same_input a b e = λ j. record { name = (e j).0; lo = (e j).1; hi = (e j).2; ranged = is_prop→PathP (λ k. IsRange (e k).1 (e k).2) (λ k. hlevel props) a.ranged b.ranged j }
+same_input a b e = λ j. record {
+  name = (e j).0;
+  lo = (e j).1;
+  hi = (e j).2;
+  ranged = is_prop→PathP (λ k. IsRange (e k).1 (e k).2) (λ k. hlevel props) a.ranged b.ranged j;
+}
 
-heads : (x : Input) (xs : List Input) (y : Input) (ys : List Input) → map bounds_of_input (x ∷ xs) ≡ map bounds_of_input (y ∷ ys) → bounds_of_input x ≡ bounds_of_input y
+heads : (x : Input) (xs : List Input) (y : Input) (ys : List Input) → map bounds_of_input (x ∷ xs) ≡ map bounds_of_input (y ∷ ys)
+    → bounds_of_input x ≡ bounds_of_input y
 heads x xs y ys e = cc
 
-tails : (x : Input) (xs : List Input) (y : Input) (ys : List Input) → map bounds_of_input (x ∷ xs) ≡ map bounds_of_input (y ∷ ys) → map bounds_of_input xs ≡ map bounds_of_input ys
+tails : (x : Input) (xs : List Input) (y : Input) (ys : List Input) → map bounds_of_input (x ∷ xs) ≡ map bounds_of_input (y ∷ ys)
+    → map bounds_of_input xs ≡ map bounds_of_input ys
 tails x xs y ys e = cc
 
 same_inputs : (xs ys : List Input) → map bounds_of_input xs ≡ map bounds_of_input ys → xs ≡ ys
@@ -118,7 +136,8 @@ same_signature a b i o = λ j. record {
 -- tables with the same content are the same
 pub same_table : (s : Declared) (a b : Table) → IsContent s a → IsContent s b → a ≡ b
 same_table s a b p q =
-    let signature = same_signature a.signature b.signature (same_inputs a.signature.inputs b.signature.inputs (p.inputs ∙ sym q.inputs)) (p.outputs ∙ sym q.outputs) in
+    let signature = same_signature a.signature b.signature (same_inputs a.signature.inputs b.signature.inputs (p.inputs ∙ sym q.inputs))
+    (p.outputs ∙ sym q.outputs) in
     let states = p.states ∙ sym q.states in
     let rows = p.rows ∙ sym q.rows in
     λ j. record {

@@ -22,7 +22,7 @@ use Rattle.chart_syntax.specs.declared.error.Kind.TheVariants as kind
 use Rattle.chart_syntax.specs.declared.error.Which.TheVariants as which
 use Rattle.chart_syntax.specs.declared.error.Refusal.{Refusal}
 use Rattle.chart_syntax.specs.declared.error.Refusal.TheVariants.{Fault, Limit}
-use Rattle.chart_syntax.specs.Collect.{or_else}
+use Rattle.line_tokens.specs.Limits.{or_else}
 use Rattle.chart_syntax.specs.Checks.{line_error_of, fault_check, limit_check}
 use Rattle.chart_syntax.specs.Reading.{refusal_in, bounds_of_input, bounds_of_form}
 use Rattle.impl_table.specs.declared.form.ReplyNumber.{ReplyNumber}

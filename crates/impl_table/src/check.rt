@@ -7,26 +7,25 @@ ghost use Rattle.impl_table.specs.inside.Lines.{Passes};
 
 use crate::form::TableForm;
 use crate::reader::Declared;
-use crate::refusal::LineRefusal;
-use chart_syntax::{Kind, Which};
+use chart_syntax::{Kind, Refusal, Which};
 use line_forms::{Keyword, ParsedLine};
 
 /// That a line is refused for a fault, where the check meets it.
-pub fn fault_if(met: bool, kind: Kind) -> Result<(), LineRefusal>
+pub fn fault_if(met: bool, kind: Kind) -> Result<(), Refusal>
     ensures { Passes (fault_check met kind) result }
 {
     if met {
-        return Err(LineRefusal::fault(kind));
+        return Err(Refusal::Fault(kind));
     }
     Ok(())
 }
 
 /// That a line passes a limit, where it does.
-pub fn limit_if(passed: bool, which: Which) -> Result<(), LineRefusal>
+pub fn limit_if(passed: bool, which: Which) -> Result<(), Refusal>
     ensures { Passes (limit_check passed which) result }
 {
     if passed {
-        return Err(LineRefusal::limit(which));
+        return Err(Refusal::Limit(which));
     }
     Ok(())
 }
@@ -53,7 +52,7 @@ fn group(head: Option<Keyword>) -> u8
 }
 
 /// Whether the first line is `table 1`.
-pub fn check_version(declared: &Declared, seen: &ParsedLine<TableForm>) -> Result<(), LineRefusal>
+pub fn check_version(declared: &Declared, seen: &ParsedLine<TableForm>) -> Result<(), Refusal>
     ensures { Passes (version_check declared.now seen.now) result }
 {
     fault_if(
@@ -63,14 +62,14 @@ pub fn check_version(declared: &Declared, seen: &ParsedLine<TableForm>) -> Resul
 }
 
 /// Whether a later line begins with a word that begins lines.
-pub fn check_word(declared: &Declared, seen: &ParsedLine<TableForm>) -> Result<(), LineRefusal>
+pub fn check_word(declared: &Declared, seen: &ParsedLine<TableForm>) -> Result<(), Refusal>
     ensures { Passes (word_check declared.now seen.now) result }
 {
     fault_if(declared.begun && group(seen.head) == 0, Kind::NoSuchLine)
 }
 
 /// Whether a later line stands after no line of a later group.
-pub fn check_order(declared: &Declared, seen: &ParsedLine<TableForm>) -> Result<(), LineRefusal>
+pub fn check_order(declared: &Declared, seen: &ParsedLine<TableForm>) -> Result<(), Refusal>
     ensures { Passes (order_check declared.now seen.now) result }
 {
     fault_if(
@@ -92,7 +91,7 @@ fn is_formed(outputs: usize, form: &Option<TableForm>) -> bool
 }
 
 /// Whether the line's tokens derive from a form.
-pub fn check_form(declared: &Declared, seen: &ParsedLine<TableForm>) -> Result<(), LineRefusal>
+pub fn check_form(declared: &Declared, seen: &ParsedLine<TableForm>) -> Result<(), Refusal>
     ensures { Passes (form_check declared.now seen.now) result }
 {
     fault_if(!is_formed(declared.outputs.len(), &seen.form), Kind::Form)

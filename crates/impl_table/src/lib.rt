@@ -8,13 +8,10 @@ mod laws;
 mod plan;
 mod read;
 mod reader;
-mod refusal;
 mod reply;
 mod table;
 mod table_rows;
 mod take;
-#[cfg(test)]
-mod tests;
 
 pub use fit::{Unfit, fits};
 pub use laws::table_or_refusal;

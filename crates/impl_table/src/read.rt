@@ -6,11 +6,10 @@ ghost use Rattle.impl_table.specs.inside.Lines.{HasRange, IsPartial};
 
 use crate::form::TableForm;
 use crate::reader::{Declared, begin};
-use crate::refusal::{LineRefusal, token_error};
 use crate::table::Table;
 use crate::table_rows::TableRows;
 use crate::take::take;
-use chart_syntax::{ChartError, Kind};
+use chart_syntax::{ChartError, Kind, Refusal, at_line, token_error};
 use lin_form::{Input, Inputs, Name, Names, Signature};
 use line_checks::guards_fit;
 use line_forms::{InputForm, Signed, Viewer, small_seen};
@@ -83,7 +82,7 @@ struct TableReader {
 }
 
 impl TextReader for TableReader {
-    type Refusal = LineRefusal;
+    type Refusal = Refusal;
 
     ghost use Rattle.impl_table.specs.declared.reader.Declared.{Declared};
     ghost use Rattle.impl_table.specs.Reading.{TakesRow, end_check};
@@ -99,7 +98,7 @@ impl TextReader for TableReader {
 
     ghost end = { end_check };
 
-    fn take(&mut self, alloc: Global, line: &[u8]) -> Result<(), LineError<LineRefusal>> {
+    fn take(&mut self, alloc: Global, line: &[u8]) -> Result<(), LineError<Refusal>> {
         small_seen::<TableForm>();
         guards_fit();
         let seen = match self.viewer.see_form::<TableForm>(alloc, line) {
@@ -110,15 +109,15 @@ impl TextReader for TableReader {
         take(alloc, &mut self.declared, &seen)
     }
 
-    fn end(&self) -> Option<LineRefusal> {
+    fn end(&self) -> Option<Refusal> {
         if !self.declared.begun {
-            return Some(LineRefusal::fault(Kind::Version));
+            return Some(Refusal::Fault(Kind::Version));
         }
         if self.declared.inputs.len() == 0
             || self.declared.outputs.len() == 0
             || self.declared.states.len() == 0
         {
-            return Some(LineRefusal::fault(Kind::Missing));
+            return Some(Refusal::Fault(Kind::Missing));
         }
         None
     }
@@ -138,7 +137,9 @@ pub fn read_table(alloc: Global, text: &[u8]) -> Result<Table, ChartError>
     };
     match read_text(alloc, text, &mut reader) {
         Ok(()) => {}
-        Err(TextError::Refused(line, refusal)) => return Err(refusal.at_line(line)),
+        Err(TextError::Refused(line, refusal)) => {
+            return Err(at_line(line, LineError::Refused(refusal)));
+        }
         Err(TextError::Memory) => return Err(ChartError::Memory),
     }
     let TableReader {

@@ -16,11 +16,10 @@ ghost use Rattle.impl_table.specs.inside.Lines.{AreFew, Passes, Gives, Declares,
 use crate::check::{check_form, check_order, check_version, check_word};
 use crate::form::{RowForm, StateForm, TableForm};
 use crate::reader::{Declared, InputNames, is_variable, state_number};
-use crate::refusal::LineRefusal;
 use crate::reply::reply;
 use crate::table::{Row, TableState};
 use chart_model::Condition;
-use chart_syntax::{Kind, Which};
+use chart_syntax::{Kind, Refusal, Which};
 use lin_form::Name;
 use line_checks::{Unresolved, comparisons_left, resolved};
 use line_forms::{GuardForm, InputForm, ParsedLine, Signed};
@@ -37,16 +36,16 @@ const MOST_STATES: usize = 1_024;
 
 const MOST_ROWS: usize = 4_096;
 
-fn fault(kind: Kind) -> LineError<LineRefusal>
+fn fault(kind: Kind) -> LineError<Refusal>
     ensures { result ≡ line_error.Refused (refusal.Fault kind) }
 {
-    LineError::Refused(LineRefusal::fault(kind))
+    LineError::Refused(Refusal::Fault(kind))
 }
 
-fn limit(which: Which) -> LineError<LineRefusal>
+fn limit(which: Which) -> LineError<Refusal>
     ensures { result ≡ line_error.Refused (refusal.Limit which) }
 {
-    LineError::Refused(LineRefusal::limit(which))
+    LineError::Refused(Refusal::Limit(which))
 }
 
 fn value(number: Signed) -> i64
@@ -59,7 +58,7 @@ fn value(number: Signed) -> i64
     }
 }
 
-fn take_input(declared: &mut Declared, form: &InputForm) -> Result<(), LineError<LineRefusal>>
+fn take_input(declared: &mut Declared, form: &InputForm) -> Result<(), LineError<Refusal>>
     requires lo { IsSmallNumber form.now.lo }
     requires hi { IsSmallNumber form.now.hi }
     ensures { Declares (said_check declared.old (says.Input form.now))
@@ -81,7 +80,7 @@ fn take_input(declared: &mut Declared, form: &InputForm) -> Result<(), LineError
     Ok(())
 }
 
-fn take_output(declared: &mut Declared, name: Name) -> Result<(), LineError<LineRefusal>>
+fn take_output(declared: &mut Declared, name: Name) -> Result<(), LineError<Refusal>>
     ensures { Declares (said_check declared.old (says.Output name))
         (next declared.old (says.Output name)) declared.new result }
 {
@@ -98,7 +97,7 @@ fn take_output(declared: &mut Declared, name: Name) -> Result<(), LineError<Line
     Ok(())
 }
 
-fn take_state(declared: &mut Declared, form: &StateForm) -> Result<(), LineError<LineRefusal>>
+fn take_state(declared: &mut Declared, form: &StateForm) -> Result<(), LineError<Refusal>>
     requires few { length form.now.reply ≤ 8 }
     requires small { All IsSmallReplyNumber form.now.reply }
     ensures { Declares (said_check declared.old (says.State form.now))
@@ -122,12 +121,12 @@ fn take_state(declared: &mut Declared, form: &StateForm) -> Result<(), LineError
 }
 
 /// The number of the state that a row names.
-fn state(declared: &Declared, name: Name) -> Result<usize, LineRefusal>
+fn state(declared: &Declared, name: Name) -> Result<usize, Refusal>
     ensures { Gives (state_check declared.now name) (unwrap_or (state_of declared.now name) 0) result }
 {
     match state_number(declared, name) {
         Some(number) => Ok(number),
-        None => Err(LineRefusal::fault(Kind::Unknown)),
+        None => Err(Refusal::Fault(Kind::Unknown)),
     }
 }
 
@@ -136,7 +135,7 @@ fn condition(
     alloc: Global,
     declared: &Declared,
     guard: &Option<GuardForm>,
-) -> Result<Option<Condition>, LineError<LineRefusal>>
+) -> Result<Option<Condition>, LineError<Refusal>>
     requires few { length declared.now.inputs ≤ 6 }
     requires small { ForSome guard.now IsSmallGuard }
     ensures { Resolves (when_check declared.now guard.now)
@@ -159,7 +158,7 @@ fn condition(
 }
 
 /// The row of a line, whose names are checked from left to right.
-fn row(alloc: Global, declared: &Declared, form: &RowForm) -> Result<Row, LineError<LineRefusal>>
+fn row(alloc: Global, declared: &Declared, form: &RowForm) -> Result<Row, LineError<Refusal>>
     requires inputs { length declared.now.inputs ≤ 6 }
     requires few { length form.now.reply ≤ 8 }
     requires small { IsSmallTableForm (says.Row form.now) }
@@ -186,7 +185,7 @@ fn row(alloc: Global, declared: &Declared, form: &RowForm) -> Result<Row, LineEr
 }
 
 /// Whether the line's guard has at most 64 comparisons.
-fn check_comparisons(form: &RowForm) -> Result<(), LineRefusal>
+fn check_comparisons(form: &RowForm) -> Result<(), Refusal>
     ensures { Passes (comparisons_check (says.Row form.now)) result }
 {
     let Some(guard) = &form.guard else {
@@ -194,7 +193,7 @@ fn check_comparisons(form: &RowForm) -> Result<(), LineRefusal>
     };
     match comparisons_left(guard.condition(), MOST_COMPARISONS) {
         Some(_) => Ok(()),
-        None => Err(LineRefusal::limit(Which::Comparisons)),
+        None => Err(Refusal::Limit(Which::Comparisons)),
     }
 }
 
@@ -202,7 +201,7 @@ fn take_row(
     alloc: Global,
     declared: &mut Declared,
     form: &RowForm,
-) -> Result<(), LineError<LineRefusal>>
+) -> Result<(), LineError<Refusal>>
     requires inputs { length declared.old.inputs ≤ 6 }
     requires few { length form.now.reply ≤ 8 }
     requires small { IsSmallTableForm (says.Row form.now) }
@@ -232,7 +231,7 @@ fn take_said(
     alloc: Global,
     declared: &mut Declared,
     said: &TableForm,
-) -> Result<(), LineError<LineRefusal>>
+) -> Result<(), LineError<Refusal>>
     requires few { AreFew declared.old }
     requires formed { is_formed (length declared.old.outputs) (Some said.now) ≡ true }
     requires small { IsSmallTableForm said.now }
@@ -251,7 +250,7 @@ fn take_said(
 }
 
 /// Makes the checks of a line that come before those of what it says.
-fn check(declared: &Declared, seen: &ParsedLine<TableForm>) -> Result<(), LineRefusal>
+fn check(declared: &Declared, seen: &ParsedLine<TableForm>) -> Result<(), Refusal>
     ensures { Passes (front_check declared.now seen.now) result }
 {
     match check_version(declared, seen) {
@@ -274,7 +273,7 @@ pub fn take(
     alloc: Global,
     declared: &mut Declared,
     seen: &ParsedLine<TableForm>,
-) -> Result<(), LineError<LineRefusal>>
+) -> Result<(), LineError<Refusal>>
     requires few { AreFew declared.old }
     requires small { ForSome seen.now.form IsSmallTableForm }
     ensures { Declares (line_check declared.old seen.now) (some_next declared.old seen.now.form) declared.new result }

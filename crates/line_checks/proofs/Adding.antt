@@ -1,5 +1,6 @@
 -- The numbers of a sum are what its terms add up to.
-use Rattle.std.proofs.Common.{◌≡◌, ◌<◌, ◌≤◌, ℕ, zero, suc, ℤ, pos, ◌+ℤ◌, Bool, true, false, List, [], ◌∷◌, length, Option, Some, None, refl, sym, ◌∙◌, ap, subst, arith}
+use Rattle.std.proofs.Common.{◌≡◌, ◌<◌, ◌≤◌, ℕ, zero, suc, ℤ, pos, ◌+ℤ◌, Bool, true, false, List, [], ◌∷◌, length, Option, Some, None, refl, sym}
+use Rattle.std.proofs.Common.{◌∙◌, ap, subst, arith}
 use Rattle.std.specs.Prelude.{if◌then◌else◌, ◌==◌, replicate, slice_set, slice_index_or}
 use Rattle.std.proofs.lemmas.Bool.Decides.{nat_tests}
 use Rattle.std.proofs.lemmas.Int.{ints}
@@ -10,7 +11,8 @@ use Rattle.line_checks.specs.declared.scope.Variable.{Variable}
 use Rattle.line_checks.specs.declared.scope.Variable.TheVariants.{Input, Memory}
 use Rattle.line_checks.specs.declared.sum.Sum.{Sum}
 use Rattle.line_checks.specs.Names.{Names}
-use Rattle.line_checks.specs.Sums.{variable_of_term, factor_of, signed, is_negative, with_value, add_term, collect, nothing, form_of, number_in, is_same_variable, added_up, IsAmong, IsAddedUp, IsValueAddedUp}
+use Rattle.line_checks.specs.Sums.{variable_of_term, factor_of, signed, is_negative, with_value, add_term, collect, nothing, form_of, number_in}
+use Rattle.line_checks.specs.Sums.{is_same_variable, added_up, IsAmong, IsAddedUp, IsValueAddedUp}
 
 -- the number of a variable in a sum that is being collected
 abbrev number_of : Option Variable → Sum → ℤ
@@ -29,7 +31,8 @@ add_zero x = omega (arith, ints)
 add_first : (x y z : ℤ) → (x +ℤ y) +ℤ z ≡ x +ℤ (y +ℤ z)
 add_first x y z = omega (arith, ints)
 
-number_at : (xs : List ℤ) (k i : ℕ) (z : ℤ) (b : Bool) → (k == i) ≡ b → i < length xs → slice_index_or (slice_set xs k (slice_index_or xs k (pos 0) +ℤ z)) i (pos 0) ≡ slice_index_or xs i (pos 0) +ℤ (if b then z else pos 0)
+number_at : (xs : List ℤ) (k i : ℕ) (z : ℤ) (b : Bool) → (k == i) ≡ b → i < length xs
+    → slice_index_or (slice_set xs k (slice_index_or xs k (pos 0) +ℤ z)) i (pos 0) ≡ slice_index_or xs i (pos 0) +ℤ (if b then z else pos 0)
 number_at xs k i z true e less =
     let same : i ≡ k = grind (arith, nat_tests) in
     let P : ℕ → Type 0 = λ j. slice_index_or (slice_set xs j (slice_index_or xs j (pos 0) +ℤ z)) i (pos 0) ≡ slice_index_or xs i (pos 0) +ℤ z in
@@ -38,7 +41,8 @@ number_at xs k i z false e less =
     let other : i ≡ k → ⊥ = λ h. grind (arith, nat_tests) in
     get_or-set_other xs k i (slice_index_or xs k (pos 0) +ℤ z) (pos 0) other ∙ add_zero (slice_index_or xs i (pos 0))
 
-number_with : (w v : Option Variable) (z : ℤ) (sum : Sum) → HasPlaceFor v sum → number_of v (with_value w z sum) ≡ number_of v sum +ℤ (if is_same_variable w v then z else pos 0)
+number_with : (w v : Option Variable) (z : ℤ) (sum : Sum) → HasPlaceFor v sum
+    → number_of v (with_value w z sum) ≡ number_of v sum +ℤ (if is_same_variable w v then z else pos 0)
 number_with None None z sum h = refl
 number_with None (Some (Input i)) z sum h = add_zero (slice_index_or sum.inputs i (pos 0))
 number_with None (Some (Memory j)) z sum h = add_zero (slice_index_or sum.memory j (pos 0))
@@ -60,7 +64,8 @@ place_with (Some (Memory k)) None z sum h = h
 place_with (Some (Memory k)) (Some (Input i)) z sum h = h
 place_with (Some (Memory k)) (Some (Memory j)) z sum h = subst (λ n. j < n) (sym (length-set sum.memory k (slice_index_or sum.memory k (pos 0) +ℤ z))) h
 
-number_collect : (s : Names) (subtracted : Bool) (terms : List SignedTerm) (sum : Sum) (v : Option Variable) → HasPlaceFor v sum → number_of v (collect s subtracted sum terms) ≡ number_of v sum +ℤ added_up s subtracted v terms
+number_collect : (s : Names) (subtracted : Bool) (terms : List SignedTerm) (sum : Sum) (v : Option Variable) → HasPlaceFor v sum
+    → number_of v (collect s subtracted sum terms) ≡ number_of v sum +ℤ added_up s subtracted v terms
 number_collect s subtracted [] sum v h = add_zero (number_of v sum)
 number_collect s subtracted (t ∷ terms) sum v h =
     let w = variable_of_term s t.term in
@@ -69,10 +74,12 @@ number_collect s subtracted (t ∷ terms) sum v h =
     ∙ ap (λ x. x +ℤ added_up s subtracted v terms) (number_with w v z sum h)
     ∙ add_first (number_of v sum) (if is_same_variable w v then z else pos 0) (added_up s subtracted v terms)
 
-place_collect : (s : Names) (subtracted : Bool) (terms : List SignedTerm) (sum : Sum) (v : Option Variable) → HasPlaceFor v sum → HasPlaceFor v (collect s subtracted sum terms)
+place_collect : (s : Names) (subtracted : Bool) (terms : List SignedTerm) (sum : Sum) (v : Option Variable) → HasPlaceFor v sum
+    → HasPlaceFor v (collect s subtracted sum terms)
 place_collect s subtracted [] sum v h = h
 place_collect s subtracted (t ∷ terms) sum v h =
-    place_collect s subtracted terms (add_term s subtracted sum t) v (place_with (variable_of_term s t.term) v (signed (is_negative subtracted t.negated) (factor_of t.term)) sum h)
+    place_collect s subtracted terms (add_term s subtracted sum t) v
+    (place_with (variable_of_term s t.term) v (signed (is_negative subtracted t.negated) (factor_of t.term)) sum h)
 
 form_number : (width : ℕ) (sum : Sum) (v : Option Variable) → IsAmong width v → number_in v (form_of width sum) ≡ number_of v sum
 form_number width sum None h = refl
@@ -98,9 +105,11 @@ zero_add : (x : ℤ) → pos 0 +ℤ x ≡ x
 zero_add x = omega (arith, ints)
 
 -- the first terms that are collected
-first_number : (s : Names) (width : ℕ) (terms : List SignedTerm) (v : Option Variable) → width ≤ 6 → IsAmong width v → number_of v (collect s false nothing terms) ≡ added_up s false v terms
+first_number : (s : Names) (width : ℕ) (terms : List SignedTerm) (v : Option Variable) → width ≤ 6 → IsAmong width v
+    → number_of v (collect s false nothing terms) ≡ added_up s false v terms
 first_number s width terms v few h =
-    number_collect s false terms nothing v (nothing_place width v few h) ∙ ap (λ x. x +ℤ added_up s false v terms) (nothing_number v) ∙ zero_add (added_up s false v terms)
+    number_collect s false terms nothing v (nothing_place width v few h) ∙ ap (λ x. x +ℤ added_up s false v terms) (nothing_number v)
+    ∙ zero_add (added_up s false v terms)
 
 pub comparison_adds_up : (s : Names) (width : ℕ) (t : TestForm) → width ≤ 6 → IsAddedUp s width t
 comparison_adds_up s width t few = λ v h.

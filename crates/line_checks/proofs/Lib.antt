@@ -4,3 +4,4 @@ pub mod Places
 pub mod Moderate
 pub mod Kept
 pub mod Walks
+pub mod CallerLemmas

@@ -19,9 +19,12 @@ place_map name_of name xs =
     λ j. first (prefix_map name_of (λ x. not (is_same name x)) xs j) (size j)
 
 -- a name that is found among those of a list of inputs
-pub found_in : {T : Type 0} (name_of : T → List ℕ) (place : Option ℕ) (name : List ℕ) (xs : List T) (i : ℕ) → place ≡ position (λ x. is_same name (name_of x)) xs → place ≡ Some i → variable_in (place_of name (map name_of xs)) None ≡ Some (variable.Input i)
+pub found_in : {T : Type 0} (name_of : T → List ℕ) (place : Option ℕ) (name : List ℕ) (xs : List T) (i : ℕ)
+    → place ≡ position (λ x. is_same name (name_of x)) xs → place ≡ Some i
+    → variable_in (place_of name (map name_of xs)) None ≡ Some (variable.Input i)
 found_in name_of place name xs i p e = ap (λ o. variable_in o None) (place_map name_of name xs ∙ sym p ∙ e)
 
 -- a name that is not
-pub not_found : {T : Type 0} (name_of : T → List ℕ) (place : Option ℕ) (name : List ℕ) (xs : List T) → place ≡ position (λ x. is_same name (name_of x)) xs → place ≡ None → variable_in (place_of name (map name_of xs)) None ≡ None
+pub not_found : {T : Type 0} (name_of : T → List ℕ) (place : Option ℕ) (name : List ℕ) (xs : List T)
+    → place ≡ position (λ x. is_same name (name_of x)) xs → place ≡ None → variable_in (place_of name (map name_of xs)) None ≡ None
 not_found name_of place name xs p e = ap (λ o. variable_in o None) (place_map name_of name xs ∙ sym p ∙ e)

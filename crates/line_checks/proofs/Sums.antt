@@ -1,5 +1,6 @@
 -- Sums that are collected term by term, and how large their numbers are.
-use Rattle.std.proofs.Common.{◌≡◌, ◌≤◌, ◌<◌, ◌+◌, ◌*◌, ℕ, zero, suc, ℤ, pos, ◌+ℤ◌, Bool, true, false, List, [], ◌∷◌, length, drop, get_or, Option, Some, None, sym, ◌∙◌, ap, arith}
+use Rattle.std.proofs.Common.{◌≡◌, ◌≤◌, ◌<◌, ◌+◌, ◌*◌, ℕ, zero, suc, ℤ, pos, ◌+ℤ◌, Bool, true, false, List, [], ◌∷◌, length, drop, get_or, Option}
+use Rattle.std.proofs.Common.{Some, None, sym, ◌∙◌, ap, arith}
 use Rattle.std.specs.Prelude.{unsigned_abs, slice_set, slice_index_or}
 use Rattle.std.proofs.lemmas.Int.{ints}
 use Rattle.std.proofs.lemmas.List.{drop_more}
@@ -19,9 +20,11 @@ use Rattle.line_checks.specs.Sums.{or_else, term_check, sum_check, variable_of_t
 use Rattle.line_checks.specs.declared.scope.NameFault.{NameFault}
 
 -- a term that is refused refuses all of them
-pub terms_failed : (s : Names) (terms : List SignedTerm) (i : ℕ) (t : SignedTerm) (e : NameFault) → i < length terms → t ≡ get_or terms i t → sum_check s (drop i terms) ≡ sum_check s terms → term_check s t.term ≡ Some e → sum_check s terms ≡ Some e
+pub terms_failed : (s : Names) (terms : List SignedTerm) (i : ℕ) (t : SignedTerm) (e : NameFault) → i < length terms → t ≡ get_or terms i t
+    → sum_check s (drop i terms) ≡ sum_check s terms → term_check s t.term ≡ Some e → sum_check s terms ≡ Some e
 terms_failed s terms i t r less is same h =
-    sym same ∙ ap (sum_check s) (drop_more terms i t less) ∙ ap (λ b. or_else (term_check s b.term) (sum_check s (drop (i + 1) terms))) (sym is) ∙ ap (λ o. or_else o (sum_check s (drop (i + 1) terms))) h
+    sym same ∙ ap (sum_check s) (drop_more terms i t less) ∙ ap (λ b. or_else (term_check s b.term) (sum_check s (drop (i + 1) terms))) (sym is)
+    ∙ ap (λ o. or_else o (sum_check s (drop (i + 1) terms))) h
 
 larger : (x z : ℤ) → unsigned_abs (x +ℤ z) ≤ unsigned_abs x + unsigned_abs z
 larger x z = omega (arith, ints)
@@ -32,7 +35,8 @@ size_of-set [] i z = omega arith
 size_of-set (x ∷ xs) zero z =
     let a = sum_by-cons unsigned_abs (x +ℤ z) xs in let b = sum_by-cons unsigned_abs x xs in let l = larger x z in omega (arith, a, b, l)
 size_of-set (x ∷ xs) (suc i) z =
-    let a = sum_by-cons unsigned_abs x (slice_set xs i (slice_index_or xs i (pos 0) +ℤ z)) in let b = sum_by-cons unsigned_abs x xs in let l = size_of-set xs i z in omega (arith, a, b, l)
+    let a = sum_by-cons unsigned_abs x (slice_set xs i (slice_index_or xs i (pos 0) +ℤ z)) in let b = sum_by-cons unsigned_abs x xs in
+    let l = size_of-set xs i z in omega (arith, a, b, l)
 
 small_signed : (b : Bool) (n : ℕ) → n ≤ 1000000 → unsigned_abs (signed b n) ≤ 1000000
 small_signed true n h = omega (arith, ints)
@@ -50,7 +54,8 @@ weight_with (Some (Input i)) z sum = let l = size_of-set sum.inputs i z in omega
 weight_with (Some (Memory j)) z sum = let l = size_of-set sum.memory j z in omega (arith, l)
 
 -- a sum of so many small terms is small
-pub weight_collect : (s : Names) (subtracted : Bool) (sum : Sum) (terms : List SignedTerm) → AreSmallTerms terms → weight (collect s subtracted sum terms) ≤ weight sum + 1000000 * length terms
+pub weight_collect : (s : Names) (subtracted : Bool) (sum : Sum) (terms : List SignedTerm) → AreSmallTerms terms
+    → weight (collect s subtracted sum terms) ≤ weight sum + 1000000 * length terms
 weight_collect s subtracted sum [] small = omega arith
 weight_collect s subtracted sum (t ∷ terms) small =
     let z = signed (is_negative subtracted t.negated) (factor_of t.term) in

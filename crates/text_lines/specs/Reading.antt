@@ -39,7 +39,8 @@ pub record IsDecided {X K : Type 0} (IsReading : X → Type 0) (IsRefusal : ℕ 
   pub apart : (x : X) (n : ℕ) (k : K) → IsReading x → IsRefusal n k → ⊥
   pub some : ((x : X) → IsReading x → ⊥) → ((n : ℕ) (k : K) → IsRefusal n k → ⊥) → ⊥
 
--- a line's outcomes, where they are told by what is seen of it: the check that meets it, or the next state where none does
+-- a line's outcomes, where they are told by what is seen of it: the check that meets it, or the next state where
+-- none does
 abbrev pub StepBy : {S V K : Type 0} → (List ℕ → V → Type 0) → (S → V → Option K → Type 0) → (S → V → S)
     → S → List ℕ → Result S K → Type 0
 StepBy {V = V} Is Checks next s line (Ok t) = (view : V) × Is line view × Checks s view None × (t ≡ next s view)

@@ -12,7 +12,8 @@ pub enum LineError<K> {
     Memory,
 }
 
-/// Why a text is not read: what refuses the line with this number, from 1, or the end, whose number is the one after the
+/// Why a text is not read: what refuses the line with this number, from 1, or the end, whose number is the one
+/// after the
 /// last line's; or want of memory.
 #[derive(Debug, Drop)]
 pub enum TextError<K> {

@@ -9,12 +9,7 @@ use Rattle.text_lines.specs.declared.read.LineError.TheVariants as line_error
 use Rattle.line_forms.specs.declared.statement.InputForm.{InputForm}
 use Rattle.line_forms.specs.Forms.{value_of}
 use Rattle.chart_syntax.specs.declared.error.Refusal.{Refusal}
-use Rattle.chart_syntax.specs.declared.error.Refusal.TheVariants.{Fault, Limit}
-use Rattle.chart_syntax.specs.declared.error.LineError as chart
-use Rattle.chart_syntax.specs.declared.error.LineError.TheVariants as chart_error
 use Rattle.impl_table.specs.declared.reader.Declared.{Declared}
-use Rattle.impl_table.specs.declared.refusal.Reason.{Reason}
-use Rattle.impl_table.specs.declared.refusal.Reason.TheVariants as reason
 use Rattle.impl_table.specs.declared.table.Row.{Row}
 use Rattle.impl_table.specs.Table.{IsRow}
 
@@ -40,15 +35,6 @@ pub record IsPartial (s : Declared) : Type 0 where
 -- the guard of a row can be read on vectors of so many numbers
 abbrev pub IsReadableRow : ℕ → Row → Type 0
 IsReadableRow numbers row = ForSome row.guard (IsReadableGuard numbers)
-
-abbrev pub refusal_of : Reason → Refusal
-refusal_of (reason.Fault kind) = Fault kind
-refusal_of (reason.Limit which) = Limit which
-
--- why a line is not taken, as the one reading of a text by lines tells it
-abbrev pub line_error_in : chart.LineError → LineError Refusal
-line_error_in (chart_error.Refused refusal) = line_error.Refused refusal
-line_error_in chart_error.Memory = line_error.Memory
 
 -- what a function answers that makes one check
 abbrev pub Passes : Option Refusal → Result (Unit {0}) Refusal → Type 0

@@ -1,5 +1,5 @@
 use Rattle.std.proofs.Common.{◌≡◌, drop}
-use Rattle.chart_syntax.specs.Words.{meets}
+use Rattle.chart_model.specs.Box.{meets}
 use Rattle.chart_syntax.proofs.word.meets.Given as goal
 
 abbrev pub invariant-assumed : goal.invariant-assumed

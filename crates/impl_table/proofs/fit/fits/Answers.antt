@@ -6,7 +6,8 @@ use Rattle.impl_table.proofs.fit.fits.Goals as goal
 
 pub returns-in-Err-clause-differs : goal.returns-in-Err-clause-differs
 returns-in-Err-clause-differs c =
-    unfit_inputs c.args.model.now c.args.other.now c.in-Err.unfit ((λ j. inputs_difference (sym c.as_slice.ensures j) (sym c.as_slice-2.ensures j)) ∙ c.in-Err.ensures)
+    unfit_inputs c.args.model.now c.args.other.now c.in-Err.unfit
+    ((λ j. inputs_difference (sym c.as_slice.ensures j) (sym c.as_slice-2.ensures j)) ∙ c.in-Err.ensures)
 
 pub returns-clause-fits : goal.returns-clause-fits
 returns-clause-fits c =
@@ -15,4 +16,5 @@ returns-clause-fits c =
 
 pub returns-clause-differs : goal.returns-clause-differs
 returns-clause-differs c =
-    unfit_after c.args.model.now c.args.other.now c.as_slice-3.result.now c.as_slice-4.result.now c.fit_outputs.result c.as_slice-3.ensures c.as_slice-4.ensures c.fit_outputs.ensures
+    unfit_after c.args.model.now c.args.other.now c.as_slice-3.result.now c.as_slice-4.result.now c.fit_outputs.result c.as_slice-3.ensures
+    c.as_slice-4.ensures c.fit_outputs.ensures

@@ -10,6 +10,7 @@ numbers-preserved c =
     let inside = c.in-Some.ensures.inside in
     let more = front_more line c.args.at c.numbers.end c.numbers.numbers number c.numbers.invariant.front c.in-Some.ensures.found in
     record {
-      front = subst (IsFront line c.args.at (c.numbers.end + c.size-end.result)) (sym c.in_ok-push.ensures.ok) (subst (λ n. IsFront line c.args.at (c.numbers.end + n) (c.numbers.numbers ++ number ∷ [])) (sym size) more);
+      front = subst (IsFront line c.args.at (c.numbers.end + c.size-end.result)) (sym c.in_ok-push.ensures.ok)
+          (subst (λ n. IsFront line c.args.at (c.numbers.end + n) (c.numbers.numbers ++ number ∷ [])) (sym size) more);
       inside = omega (arith, size, inside);
     }

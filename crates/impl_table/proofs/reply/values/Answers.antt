@@ -14,6 +14,8 @@ numbers-preserved c =
     let less = c.numbers-test.true in
     rw same (record {
       size = length-set c.numbers.values i c.value.result ∙ size;
-      done = take_more_set c.numbers.values i c.value.result (omega (arith, size, few, less)) ∙ ap (λ front. front ++ c.value.result ∷ []) c.numbers.invariant.done ∙ ap (λ x. map value_of (take i numbers) ++ x ∷ []) c.value.ensures.value
+      done = take_more_set c.numbers.values i c.value.result (omega (arith, size, few, less))
+          ∙ ap (λ front. front ++ c.value.result ∷ []) c.numbers.invariant.done
+          ∙ ap (λ x. map value_of (take i numbers) ++ x ∷ []) c.value.ensures.value
           ∙ sym (ap (map value_of) (take_more numbers i (Plain 0) less) ∙ map-append value_of (take i numbers) (slice_index_or numbers i (Plain 0) ∷ []));
     })

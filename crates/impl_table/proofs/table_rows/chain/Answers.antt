@@ -16,7 +16,8 @@ rows-preserved c =
     let inside : i < length rows = omega (arith, c.rows-test.true, within) in
     let one : c.rows.at ≡ i + 1 = omega (arith, c.rows-test.true) in
     let states = c.rows.invariant.states in
-    let from : row.from < length c.args.firsts.now = All-get_or (λ (r : Row). r.from < length c.args.firsts.now) rows i c.index-rows-at.result inside c.requires.from in
+    let from : row.from < length c.args.firsts.now = All-get_or (λ (r : Row). r.from < length c.args.firsts.now) rows i c.index-rows-at.result
+    inside c.requires.from in
     record {
       within = omega (arith, inside);
       states = length-set c.rows.firsts row.from i ∙ states;

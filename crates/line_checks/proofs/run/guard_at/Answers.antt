@@ -18,5 +18,7 @@ returns-in-Err-Fault g c =
     let few = c.in-Some.ensures in
     let names = g.S.Scope.names c.args.scope.now in
     let tree = written.plain c.in-Ok.found.0 in
-    let fault : guard_check names tree ≡ Some c.in-Err-Fault.fault = subst (λ e. Resolves plain (guard_check names tree) (guard_of names c.args.width tree) (Err e)) c.in-Err-Fault.field-0-is c.in-Err-Fault.ensures in
+    let fault : guard_check names tree ≡ Some c.in-Err-Fault.fault =
+    subst (λ e. Resolves plain (guard_check names tree) (guard_of names c.args.width tree) (Err e)) c.in-Err-Fault.field-0-is
+    c.in-Err-Fault.ensures in
     (c.in-Ok.found.1, h.0, h.1, subst (λ t. tests_of t ≤ 64) h.2 (omega (arith, few)), subst (λ t. guard_check names t ≡ Some c.in-Err-Fault.fault) h.2 fault)

@@ -9,4 +9,5 @@ returns-clause-form g c =
     let names = g.S.Scope.names c.args.scope.now in
     let terms = c.args.terms.now in
     let added = c.in-Ok.ensures.added ∙ ap (λ sum. collect names false sum terms) c.empty_sum-sum.ensures in
-    subst (IsFormOver c.args.width (length names.memories)) (sym (c.form.ensures ∙ ap (form_of c.args.width) added)) (value_over names c.args.width terms c.requires.few c.requires.short c.requires.small)
+    subst (IsFormOver c.args.width (length names.memories)) (sym (c.form.ensures ∙ ap (form_of c.args.width) added))
+    (value_over names c.args.width terms c.requires.few c.requires.short c.requires.small)

@@ -2,7 +2,8 @@ use Rattle.std.proofs.Common.{refl, arith}
 use Rattle.line_forms.specs.Trees as tree
 use Rattle.line_forms.specs.Grammar.{not, paren, test, unit_tree, conj_tree}
 use Rattle.line_forms.specs.declared.error.FormError.TheVariants.{Form}
-use Rattle.line_forms.proofs.Chains.{not_longest, not_failed, paren_longest, paren_failed, not_closed, unit_test, unit_failed, conj_begin, conj_failed, conj_next, conj_end, guard_begin, guard_failed, guard_next, guard_end}
+use Rattle.line_forms.proofs.Chains.{not_longest, not_failed, paren_longest, paren_failed, not_closed, unit_test, unit_failed, conj_begin}
+use Rattle.line_forms.proofs.Chains.{conj_failed, conj_next, conj_end, guard_begin, guard_failed, guard_next, guard_end}
 use Rattle.line_checks.proofs.walk.+walk.Goals as goal
 
 pub unit_end-returns-in-Some-clause-found : goal.unit_end-returns-in-Some-clause-found
@@ -32,7 +33,8 @@ unit_end-returns-in-Some-test_end-clause-found t c =
     (test h.0, unit_test c.args.line.now c.args.at c.in-Some-test_end.end h.0 c.if-is_reserved.ensures.found c.if-is_open.ensures.found h.1)
 
 pub unit_end-returns-in-None-test_end-clause-found : goal.unit_end-returns-in-None-test_end-clause-found
-unit_end-returns-in-None-test_end-clause-found t c = unit_failed c.args.line.now c.args.at Form c.if-is_reserved.ensures.found c.if-is_open.ensures.found c.in-None-test_end.ensures.found
+unit_end-returns-in-None-test_end-clause-found t c = unit_failed c.args.line.now c.args.at Form c.if-is_reserved.ensures.found
+    c.if-is_open.ensures.found c.in-None-test_end.ensures.found
 
 pub conj_end-returns-in_default-clause-found : goal.conj_end-returns-in_default-clause-found
 conj_end-returns-in_default-clause-found t c = conj_failed c.args.line.now c.args.at Form c.in_default.ensures.found
@@ -54,7 +56,8 @@ conj_end-units-preserved t c =
     let inside = c.in-Some-unit_end.ensures.inside in
     let value = c.units.invariant.0 in (
       tree.and value (unit_tree h.0),
-      conj_next c.args.line.now c.args.at c.units.end c.in-Some-unit_end.next value (tree.and value (unit_tree h.0)) h.0 c.units.invariant.1 c.units-test.ensures.found h.1 refl
+      conj_next c.args.line.now c.args.at c.units.end c.in-Some-unit_end.next value
+          (tree.and value (unit_tree h.0)) h.0 c.units.invariant.1 c.units-test.ensures.found h.1 refl
           (omega (arith, inside.0)) inside.1,
     )
 
@@ -83,7 +86,8 @@ guard_end-conjs-preserved t c =
     let inside = c.in-Some-conj_end.ensures.inside in
     let value = c.conjs.invariant.0 in (
       tree.or value (conj_tree h.0),
-      guard_next c.args.line.now c.args.at c.conjs.end c.in-Some-conj_end.next value (tree.or value (conj_tree h.0)) h.0 c.conjs.invariant.1 c.conjs-test.ensures.found h.1 refl
+      guard_next c.args.line.now c.args.at c.conjs.end c.in-Some-conj_end.next value
+          (tree.or value (conj_tree h.0)) h.0 c.conjs.invariant.1 c.conjs-test.ensures.found h.1 refl
           (omega (arith, inside.0)) inside.1,
     )
 

@@ -10,4 +10,5 @@ returns-clause-kept c =
     let s : CutsState = record { signature = old.signature.now; begun = old.begun; cuts = old.cuts.items } in
     let over = subst (IsOver old.signature.now) c.in-Some.is c.in-Ok.ensures.over in
     let pushed : c.push.new.self.items ≡ old.cuts.items ++ c.in-Some.cut ∷ [] = search rules in
-    subst (λ cuts. AreRead (record { signature = old.signature.now; begun = true; cuts = cuts })) (sym pushed) (one_more s c.in-Some.cut c.requires over.0 over.1)
+    subst (λ cuts. AreRead (record { signature = old.signature.now; begun = true; cuts = cuts })) (sym pushed)
+    (one_more s c.in-Some.cut c.requires over.0 over.1)

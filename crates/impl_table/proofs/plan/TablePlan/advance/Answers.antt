@@ -22,6 +22,7 @@ pub overflow_cast-result : goal.overflow_cast-result
 overflow_cast-result c =
     let table = c.args.self.now in
     let found : first_row table.rows c.args.state.now c.args.input.now ≡ _ = sym c.in-Some.ensures in
-    let less = first_keeps (λ (row : Row). row.to < length table.states) table.rows c.args.state.now c.args.input.now c.in-Some.row.now (row_to (length table.signature.inputs) (length table.signature.outputs) (length table.states) table.rows table.kept.moves) found in
+    let less = first_keeps (λ (row : Row). row.to < length table.states) table.rows c.args.state.now c.args.input.now c.in-Some.row.now
+    (row_to (length table.signature.inputs) (length table.signature.outputs) (length table.states) table.rows table.kept.moves) found in
     let most = table.kept.few_states.limit in
     omega (arith, less, most)

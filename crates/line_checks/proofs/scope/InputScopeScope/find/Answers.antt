@@ -9,10 +9,12 @@ use Rattle.line_checks.proofs.scope.InputScopeScope.find.Goals as goal
 pub returns-in-Some-clause-found : goal.returns-in-Some-clause-found
 returns-in-Some-clause-found c =
     let inputs = c.args.self.now.signature.now.inputs in
-    found_in (λ (i : Input). i.name) c.place.result c.args.name inputs c.in-Some.number (c.place.ensures.place ∙ ap (position (λ (i : Input). is_same c.args.name i.name)) c.as_slice.ensures) c.in-Some.is
+    found_in (λ (i : Input). i.name) c.place.result c.args.name inputs c.in-Some.number
+    (c.place.ensures.place ∙ ap (position (λ (i : Input). is_same c.args.name i.name)) c.as_slice.ensures) c.in-Some.is
 
 pub returns-in-None-clause-found : goal.returns-in-None-clause-found
 returns-in-None-clause-found c =
     let inputs = c.args.self.now.signature.now.inputs in
-    let h = not_found (λ (i : Input). i.name) c.place.result c.args.name inputs (c.place.ensures.place ∙ ap (position (λ (i : Input). is_same c.args.name i.name)) c.as_slice.ensures) c.in-None.is in
+    let h = not_found (λ (i : Input). i.name) c.place.result c.args.name inputs
+    (c.place.ensures.place ∙ ap (position (λ (i : Input). is_same c.args.name i.name)) c.as_slice.ensures) c.in-None.is in
     (h, ap (λ (o : Option Variable). use_check o false) h)

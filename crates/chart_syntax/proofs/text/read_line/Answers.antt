@@ -1,7 +1,0 @@
-use Rattle.chart_syntax.proofs.Placing.{line_partial}
-use Rattle.chart_syntax.proofs.text.read_line.Goals as goal
-
-pub returns-in-Ok-Some-clause-partial : goal.returns-in-Ok-Some-clause-partial
-returns-in-Ok-Some-clause-partial c =
-    line_partial c.args.reader.now c.take.new.reader c.in-Ok-Some.sighted c.args.line.now c.take.result c.requires (rw c.in-Ok-Some.field-0-is at c.in-Ok-Some.ensures.view)
-    (c.in-Ok-Some.ensures.small c.in-Ok-Some.sighted c.in-Ok-Some.field-0-is) c.take.ensures
