@@ -89,7 +89,8 @@ pub record AreCounts (assumed : List Comparison) (memories : List Memory) (state
   pub few_transitions : length transitions ≤ 256
 
 -- what every chart keeps
-pub record IsChart (signature : Signature) (initial : List ℤ) (assumed : List Comparison) (memories : List Memory) (states : List State) (transitions : List Transition) : Type 0 where
+pub record IsChart (signature : Signature) (initial : List ℤ) (assumed : List Comparison) (memories : List Memory)
+    (states : List State) (transitions : List Transition) : Type 0 where
   pub counts : AreCounts assumed memories states transitions
   pub names : AreNames (map (λ input. input.name) signature.inputs ++ signature.outputs ++ map (λ memory. memory.name) memories)
   pub state_names : AreNames (map (λ state. state.name) states)

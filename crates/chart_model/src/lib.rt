@@ -3,6 +3,7 @@
 
 mod action;
 mod chart;
+mod copied;
 mod cuts;
 mod guard;
 mod laws;
@@ -13,6 +14,7 @@ mod transition;
 
 pub use action::{Action, Place};
 pub use chart::Chart;
+pub use copied::{Copied, copies};
 pub use cuts::Cuts;
 pub use guard::{Condition, Guard, guard_holds, guard_holds_within};
 pub use laws::comparisons_decide_guards;
