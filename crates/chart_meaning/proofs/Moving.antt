@@ -1,5 +1,6 @@
 -- States on the ways of a step, and what entries and exits keep.
-use Rattle.std.proofs.Common.{◌≡◌, ℕ, zero, suc, ◌+◌, ◌-◌, ◌<◌, ◌≤◌, Bool, true, false, cond, not, List, [], ◌∷◌, ◌++◌, length, get_or, take, drop, reverse, Option, None, Some, ℤ, refl, ap, sym, subst, ◌∙◌, arith}
+use Rattle.std.proofs.Common.{◌≡◌, ℕ, zero, suc, ◌+◌, ◌-◌, ◌<◌, ◌≤◌, Bool, true, false, cond, not, List, [], ◌∷◌, ◌++◌, length, get_or, take, drop}
+use Rattle.std.proofs.Common.{reverse, Option, None, Some, ℤ, refl, ap, sym, subst, ◌∙◌, arith}
 use Rattle.std.specs.Prelude.{position, count_by, nat_lt}
 use Rattle.std.specs.Option.{option_map_or}
 use Rattle.std.specs.List.{All, position_or_len}
@@ -62,15 +63,20 @@ reached-append s [] ys = refl
 reached-append s (x ∷ xs) ys = reached-append x xs ys
 
 -- the states on a way out are at most the first
-outer_le : (states : List State) (depth s : ℕ) (o : Option ℕ) → ((p : ℕ) → p < s → All (λ x. x ≤ p) (way_out_within depth states p)) → ((p : ℕ) → o ≡ Some p → p < s) → All (λ x. x < s) (option_map_or (way_out_within depth states) o [])
+outer_le : (states : List State) (depth s : ℕ) (o : Option ℕ)
+    → ((p : ℕ) → p < s → All (λ x. x ≤ p) (way_out_within depth states p)) → ((p : ℕ) → o ≡ Some p → p < s)
+    → All (λ x. x < s) (option_map_or (way_out_within depth states) o [])
 outer_le states depth s None each below = All-nil (λ x. x < s)
-outer_le states depth s (Some p) each below = let h = below p refl in All-weaker (λ x. x ≤ p) (λ x. x < s) (λ x le. omega arith) (way_out_within depth states p) (each p h)
+outer_le states depth s (Some p) each below = let h =
+    below p refl in All-weaker (λ x. x ≤ p) (λ x. x < s) (λ x le. omega arith) (way_out_within depth states p)
+    (each p h)
 
 pub way_out_within-le : (states : List State) → IsTree states → (depth s : ℕ) → All (λ x. x ≤ s) (way_out_within depth states s)
 way_out_within-le states tree zero s = All-nil (λ x. x ≤ s)
 way_out_within-le states tree (suc depth) s =
     let rest = outer_le states depth s (parent_of states s) (λ p h. way_out_within-le states tree depth p) (λ p e. (parent_below states tree s p e).0) in
-    All-cons (λ x. x ≤ s) s (option_map_or (way_out_within depth states) (parent_of states s) []) (omega arith) (All-weaker (λ x. x < s) (λ x. x ≤ s) (λ x lt. omega arith) _ rest)
+    All-cons (λ x. x ≤ s) s (option_map_or (way_out_within depth states) (parent_of states s) []) (omega arith)
+    (All-weaker (λ x. x < s) (λ x. x ≤ s) (λ x lt. omega arith) _ rest)
 
 pub containers-lt : (states : List State) → IsTree states → (s : ℕ) → All (λ x. x < s) (containers states s)
 unfolding way_out
@@ -78,9 +84,13 @@ containers-lt states tree s = outer_le states 7 s (parent_of states s) (λ p h. 
 
 pub AreStates-way_out : (states : List State) → IsTree states → (s : ℕ) → s < length states → AreStates states (way_out states s)
 unfolding way_out
-AreStates-way_out states tree s h = All-weaker (λ x. x ≤ s) (λ x. x < length states) (λ x le. omega arith) (way_out_within 8 states s) (way_out_within-le states tree 8 s)
+AreStates-way_out states tree s h =
+    All-weaker (λ x. x ≤ s) (λ x. x < length states) (λ x le. omega arith) (way_out_within 8 states s)
+    (way_out_within-le states tree 8 s)
 
-up_at : (states : List State) (depth : ℕ) (o : Option ℕ) → ((p : ℕ) → IsUpFrom states (Some p) (way_out_within depth states p)) → IsUpFrom states o (option_map_or (way_out_within depth states) o [])
+up_at : (states : List State) (depth : ℕ) (o : Option ℕ)
+    → ((p : ℕ) → IsUpFrom states (Some p) (way_out_within depth states p))
+    → IsUpFrom states o (option_map_or (way_out_within depth states) o [])
 up_at states depth None each = tt
 up_at states depth (Some p) each = each p
 
@@ -112,26 +122,35 @@ All-reverse P xs h k d lt =
     let other : length xs - 1 - k < length xs = omega arith in
     subst P (sym (get_or-reverse xs k d inside)) (h (length xs - 1 - k) d other)
 
-pub AreStates-entered : (states : List State) → IsTree states → (source target : ℕ) → target < length states → AreStates states (entered_by states source target)
+pub AreStates-entered : (states : List State) → IsTree states → (source target : ℕ) → target < length states
+    → AreStates states (entered_by states source target)
 AreStates-entered states tree source target h =
     let P : ℕ → Type 0 = λ s. s < length states in
-    All-reverse P (states_below (innermost_container states source target) (way_out states target)) (All-below P (innermost_container states source target) (way_out states target) (AreStates-way_out states tree target h))
+    All-reverse P (states_below (innermost_container states source target) (way_out states target))
+    (All-below P (innermost_container states source target) (way_out states target)
+    (AreStates-way_out states tree target h))
 
 -- the states on a way down
-down_each : (states : List State) (room s : ℕ) (o : Option ℕ) → ((child : ℕ) → o ≡ Some child → child < length states) → ((child : ℕ) → AreStates states (way_down_within room states child)) → AreStates states (option_map_or (λ child. child ∷ way_down_within room states child) o [])
+down_each : (states : List State) (room s : ℕ) (o : Option ℕ) → ((child : ℕ) → o ≡ Some child → child < length states)
+    → ((child : ℕ) → AreStates states (way_down_within room states child))
+    → AreStates states (option_map_or (λ child. child ∷ way_down_within room states child) o [])
 down_each states room s None inside rest = All-nil (λ x. x < length states)
 down_each states room s (Some child) inside rest = All-cons (λ x. x < length states) child (way_down_within room states child) (inside child refl) (rest child)
 
 AreStates-way_down_within : (states : List State) (room s : ℕ) → AreStates states (way_down_within room states s)
 AreStates-way_down_within states zero s = All-nil (λ x. x < length states)
-AreStates-way_down_within states (suc room) s = down_each states room s (start_child states s) (λ child e. (start_child-parent states s child e).0) (λ child. AreStates-way_down_within states room child)
+AreStates-way_down_within states (suc room) s =
+    down_each states room s (start_child states s) (λ child e. (start_child-parent states s child e).0)
+    (λ child. AreStates-way_down_within states room child)
 
 pub AreStates-way_down : (states : List State) (s : ℕ) → AreStates states (way_down states s)
 unfolding way_down
 AreStates-way_down states s = AreStates-way_down_within states 8 s
 
 -- an element that is counted has a first place
-counted_at : {X : Type 0} (p : X → Bool) (x : X) (xs : List X) (b : Bool) → p x ≡ b → (position_or_len p xs ≡ length xs → count_by p xs ≡ 0) → cond (not b) (1 + position_or_len p xs) 0 ≡ suc (length xs) → cond b 1 0 + count_by p xs ≡ 0
+counted_at : {X : Type 0} (p : X → Bool) (x : X) (xs : List X) (b : Bool) → p x ≡ b
+    → (position_or_len p xs ≡ length xs → count_by p xs ≡ 0) → cond (not b) (1 + position_or_len p xs) 0
+    ≡ suc (length xs) → cond b 1 0 + count_by p xs ≡ 0
 counted_at p x xs true at more e = absurd (omega arith)
 counted_at p x xs false at more e = let m = more (omega arith) in omega arith
 
@@ -155,12 +174,17 @@ pub childless : (states : List State) → IsTree states → (s : ℕ) → start_
 childless states tree s none = childless_from states tree s (has_children states s) refl none
 
 -- a way down ends in a state without children
-ends_at : (states : List State) → IsTree states → (room s : ℕ) (o : Option ℕ) → start_child states s ≡ o → ((child : ℕ) → o ≡ Some child → has_children states (reached child (way_down_within room states child)) ≡ false) → has_children states (reached s (option_map_or (λ child. child ∷ way_down_within room states child) o [])) ≡ false
+ends_at : (states : List State) → IsTree states → (room s : ℕ) (o : Option ℕ) → start_child states s ≡ o
+    → ((child : ℕ) → o ≡ Some child → has_children states (reached child (way_down_within room states child)) ≡ false)
+    → has_children states (reached s (option_map_or (λ child. child ∷ way_down_within room states child) o [])) ≡ false
 ends_at states tree room s None e each = childless states tree s e
 ends_at states tree room s (Some child) e each = each child refl
 
-way_down_within-childless : (states : List State) → IsTree states → (room n s : ℕ) → room + n ≡ 8 → s < length states → is_within_depth n states s ≡ false → has_children states (reached s (way_down_within room states s)) ≡ false
-way_down_within-childless states tree zero n s size h deep = absurd (false≢true (let e : n ≡ 8 = omega arith in sym deep ∙ ap (λ (m : ℕ). is_within_depth m states s) e ∙ tree.depth s h))
+way_down_within-childless : (states : List State) → IsTree states → (room n s : ℕ) → room + n ≡ 8 → s < length states
+    → is_within_depth n states s ≡ false → has_children states (reached s (way_down_within room states s)) ≡ false
+way_down_within-childless states tree zero n s size h deep =
+    absurd (false≢true (let e : n ≡ 8 = omega arith in sym deep ∙ ap (λ (m : ℕ). is_within_depth m states s) e
+    ∙ tree.depth s h))
 way_down_within-childless states tree (suc room) n s size h deep =
     ends_at states tree room s (start_child states s) refl (λ child e.
     let p = start_child-parent states s child e in
@@ -179,11 +203,14 @@ pub record IsEntering (chart : Chart) (way : List ℕ) (start : Configuration) (
   pub goes : enter_all chart (drop i way) c ≡ enter_all chart way start
   pub values : AreValues chart c
 
-pub IsEntering-more : (chart : Chart) (way : List ℕ) (start : Configuration) (i : ℕ) (c d : Configuration) → i < length way → d ≡ enter chart (get_or way i 0) c → AreValues chart d → IsEntering chart way start i c → IsEntering chart way start (i + 1) d
+pub IsEntering-more : (chart : Chart) (way : List ℕ) (start : Configuration) (i : ℕ) (c d : Configuration)
+    → i < length way → d ≡ enter chart (get_or way i 0) c → AreValues chart d → IsEntering chart way start i c
+    → IsEntering chart way start (i + 1) d
 IsEntering-more chart way start i c d h e v x = record {
   goes = rw e (rw (drop_more way i 0 h) at x.goes);
   values = v;
 }
 
-pub IsEntering-end : (chart : Chart) (way : List ℕ) (start : Configuration) (i : ℕ) (c : Configuration) → length way ≤ i → IsEntering chart way start i c → c ≡ enter_all chart way start
+pub IsEntering-end : (chart : Chart) (way : List ℕ) (start : Configuration) (i : ℕ) (c : Configuration)
+    → length way ≤ i → IsEntering chart way start i c → c ≡ enter_all chart way start
 IsEntering-end chart way start i c h x = rw (drop_all i way h) at x.goes

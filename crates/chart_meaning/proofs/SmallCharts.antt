@@ -1,5 +1,6 @@
 -- What the tests' charts keep.
-use Rattle.std.proofs.Common.{◌≡◌, ℕ, ◌+◌, ◌*◌, ◌/◌, ◌%◌, ◌<◌, ◌≤◌, Bool, true, List, [], ◌∷◌, ◌++◌, length, get_or, map, Some, refl, ap, sym, subst, ◌∙◌, arith, ℤ}
+use Rattle.std.proofs.Common.{◌≡◌, ℕ, ◌+◌, ◌*◌, ◌/◌, ◌%◌, ◌<◌, ◌≤◌, Bool, true, List, [], ◌∷◌, ◌++◌, length, get_or, map, Some, refl, ap, sym}
+use Rattle.std.proofs.Common.{subst, ◌∙◌, arith, ℤ}
 use Rattle.std.specs.Prelude.{slice_get, count_by, Contains, nat_le, unsigned_abs}
 use Rattle.std.specs.Option.{ForSome}
 use Rattle.std.specs.List.{All, list_all, range_with_len}
@@ -34,7 +35,9 @@ starts states have s e =
     let child = some.3 in
     subst (λ (x : State). ForSome x.parent (λ parent. count_by (is_start_child_of parent) states ≡ 1)) child h s (child_parent s some.1.parent some.4)
 
-pub IsTree-tested : (states : List State) → AreParentsFirst states → ((s : ℕ) → s < length states → is_within_depth 8 states s ≡ true) → HaveStarts states → count_by is_top_start states ≡ 1 → IsTree states
+pub IsTree-tested : (states : List State) → AreParentsFirst states
+    → ((s : ℕ) → s < length states → is_within_depth 8 states s ≡ true) → HaveStarts states
+    → count_by is_top_start states ≡ 1 → IsTree states
 IsTree-tested states first shallow have one = record {
   parents = λ s state parent g e. first s state g parent e;
   depth = shallow;
@@ -68,7 +71,8 @@ free_pair number low h =
     absurd (omega (arith, above, low))
 
 -- names that are made from numbers, all different and none reserved
-pub AreNames-made : (name : ℕ → List ℕ) (limit : ℕ) → ((i j : ℕ) → i < limit → j < limit → name i ≡ name j → i ≡ j) → ((i : ℕ) → i < limit → Contains reserved_words (name i) → ⊥) →
+pub AreNames-made : (name : ℕ → List ℕ) (limit : ℕ) → ((i j : ℕ) → i < limit → j < limit → name i ≡ name j → i ≡ j)
+    → ((i : ℕ) → i < limit → Contains reserved_words (name i) → ⊥) →
     (n : ℕ) → n ≤ limit → (names : List (List ℕ)) → names ≡ map name (range_with_len 0 n) → AreNames names
 AreNames-made name limit apart free n few names e =
     let size = length-map-range_with_len name 0 n in
@@ -111,7 +115,13 @@ IsCount-small states few one = record { least = counted_some is_top_start states
 one_range : (memory : Memory) → range_size memory ≤ 256 → range_product (memory ∷ []) ≤ 256
 one_range memory h = let n : range_size memory * 1 ≡ range_size memory = omega arith in omega arith
 
-pub IsChart-small : (signature : Signature) (initial : ℤ) (memory : Memory) (states : List State) (transitions : List Transition) → map (λ input. input.name) signature.inputs ≡ (118 ∷ []) ∷ (119 ∷ []) ∷ [] → signature.outputs ≡ (120 ∷ []) ∷ (121 ∷ []) ∷ [] → unsigned_abs initial ≤ 1000 → IsMemory memory → memory.name ≡ 122 ∷ [] → range_size memory ≤ 256 → IsCount 64 (length states) → AreNames (map (λ state. state.name) states) → IsTree states → All (IsState 2 1 2) states → length transitions ≤ 256 → All (IsTransition 2 1 2 states) transitions → IsChart signature (initial ∷ initial ∷ []) [] (memory ∷ []) states transitions
+pub IsChart-small : (signature : Signature) (initial : ℤ) (memory : Memory) (states : List State)
+    (transitions : List Transition) → map (λ input. input.name) signature.inputs ≡ (118 ∷ []) ∷ (119 ∷ []) ∷ []
+    → signature.outputs ≡ (120 ∷ []) ∷ (121 ∷ []) ∷ [] → unsigned_abs initial ≤ 1000 → IsMemory memory
+    → memory.name ≡ 122 ∷ [] → range_size memory ≤ 256 → IsCount 64 (length states)
+    → AreNames (map (λ state. state.name) states) → IsTree states → All (IsState 2 1 2) states
+    → length transitions ≤ 256 → All (IsTransition 2 1 2 states) transitions
+    → IsChart signature (initial ∷ initial ∷ []) [] (memory ∷ []) states transitions
 IsChart-small signature initial memory states transitions inputs outputs small m name size count names tree all few moves =
     let one : 2 ≡ length signature.inputs = sym (ap length inputs) ∙ length-map signature.inputs (λ input. input.name) in
     let out : 2 ≡ length signature.outputs = sym (ap length outputs) in
@@ -126,11 +136,13 @@ IsChart-small signature initial memory states transitions inputs outputs small m
       ranges = All-push IsMemory [] memory (All-nil IsMemory) m;
       tree = tree;
       actions = subst (λ n. All (IsState n 1 (length signature.outputs)) states) one (subst (λ n. All (IsState 2 1 n) states) out all);
-      moves = subst (λ n. All (IsTransition n 1 (length signature.outputs) states) transitions) one (subst (λ n. All (IsTransition 2 1 n states) transitions) out moves);
+      moves = subst (λ n. All (IsTransition n 1 (length signature.outputs) states) transitions) one
+          (subst (λ n. All (IsTransition 2 1 n states) transitions) out moves);
     }
 
 -- one more test of a guard
-pub more_tests : (before after : List Comparison) (test : Comparison) (k : ℕ) → after ≡ before ++ test ∷ [] → All (λ (c : Comparison). IsFormOver 2 1 c.form) before → IsFormOver 2 1 test.form → length before ≤ k →
+pub more_tests : (before after : List Comparison) (test : Comparison) (k : ℕ) → after ≡ before ++ test ∷ []
+    → All (λ (c : Comparison). IsFormOver 2 1 c.form) before → IsFormOver 2 1 test.form → length before ≤ k →
     All (λ (c : Comparison). IsFormOver 2 1 c.form) after × (length after ≤ k + 1)
 more_tests before after test k e all one few = rw e (
   All-push (λ (c : Comparison). IsFormOver 2 1 c.form) before test all one,

@@ -1,5 +1,6 @@
 -- How the starting configuration is filled in.
-use Rattle.std.proofs.Common.{◌≡◌, ℕ, zero, suc, ◌+◌, ◌-◌, ◌<◌, ◌≤◌, Bool, true, false, List, [], ◌∷◌, ◌++◌, length, get_or, take, set, map, replicate, Option, None, Some, ℤ, pos, if◌then◌else◌, refl, ap, sym, subst, ◌∙◌, arith}
+use Rattle.std.proofs.Common.{◌≡◌, ℕ, zero, suc, ◌+◌, ◌-◌, ◌<◌, ◌≤◌, Bool, true, false, List, [], ◌∷◌, ◌++◌, length, get_or, take, set, map}
+use Rattle.std.proofs.Common.{replicate, Option, None, Some, ℤ, pos, if◌then◌else◌, refl, ap, sym, subst, ◌∙◌, arith}
 use Rattle.std.specs.Prelude.{slice_get, unsigned_abs}
 use Rattle.std.specs.List.{AllByRecursion, AllZip, range_with_len}
 use Rattle.std.proofs.lemmas.List.{append_assoc, append-nil, length-append, length-map, length-take-le, map_more, set_at, take_all, get_or_at}
@@ -31,7 +32,8 @@ length-filled f xs i h = length-map (take i xs) f ∙ length-take-le i xs h
 fillers : {Y : Type 0} (filler : Y) (n i : ℕ) → i < n → replicate (n - i) filler ≡ filler ∷ replicate (n - (i + 1)) filler
 fillers {Y} filler n i h = let e : n - i ≡ suc (n - (i + 1)) = omega arith in ap (λ m. replicate {A = Y} m filler) e
 
-pub IsFilled-more : {X Y : Type 0} (f : X → Y) (filler : Y) (xs : List X) (i : ℕ) (d : X) (ys : List Y) (y : Y) → i < length xs → y ≡ f (get_or xs i d) → IsFilled f filler xs i ys → IsFilled f filler xs (i + 1) (set ys i y)
+pub IsFilled-more : {X Y : Type 0} (f : X → Y) (filler : Y) (xs : List X) (i : ℕ) (d : X) (ys : List Y) (y : Y)
+    → i < length xs → y ≡ f (get_or xs i d) → IsFilled f filler xs i ys → IsFilled f filler xs (i + 1) (set ys i y)
 IsFilled-more {X} {Y} f filler xs i d ys y h e s = record {
   is =
       let front = map f (take i xs) in
@@ -41,7 +43,8 @@ IsFilled-more {X} {Y} f filler xs i d ys y h e s = record {
       ∙ ap (λ (l : List Y). l ++ rest) (ap (λ (z : Y). front ++ z ∷ []) e ∙ sym (map_more f xs i d h));
 }
 
-pub IsFilled-at : {X Y : Type 0} (f : X → Y) (filler : Y) (xs : List X) (i : ℕ) (ys : List Y) → i < length xs → IsFilled f filler xs i ys → slice_get ys i ≡ Some filler
+pub IsFilled-at : {X Y : Type 0} (f : X → Y) (filler : Y) (xs : List X) (i : ℕ) (ys : List Y) → i < length xs
+    → IsFilled f filler xs i ys → slice_get ys i ≡ Some filler
 IsFilled-at {X} {Y} f filler xs i ys h s =
     let front = map f (take i xs) in
     let rest = replicate (length xs - (i + 1)) filler in
@@ -68,38 +71,53 @@ pub record IsSettingLast (chart : Chart) (start : Configuration) (i : ℕ) (c : 
   pub filled : IsFilled (first_last chart) None (range_with_len 0 (length chart.states)) i c.last
   pub same : c ≡ record start { last = c.last }
 
-pub IsSettingInitial-more : (memories : List Memory) (start c d : Configuration) (i : ℕ) (memory : Memory) → i < length memories → memory ≡ get_or memories i memory → d ≡ record c { memory = set c.memory i memory.initial } → IsSettingInitial memories start i c → IsSettingInitial memories start (i + 1) d
+pub IsSettingInitial-more : (memories : List Memory) (start c d : Configuration) (i : ℕ) (memory : Memory)
+    → i < length memories → memory ≡ get_or memories i memory
+    → d ≡ record c { memory = set c.memory i memory.initial } → IsSettingInitial memories start i c
+    → IsSettingInitial memories start (i + 1) d
 IsSettingInitial-more memories start c d i memory h is e s =
     let values : d.memory ≡ set c.memory i memory.initial = ap (λ (x : Configuration). x.memory) e in
     record {
-      filled = rw values (IsFilled-more (λ (m : Memory). m.initial) (pos 0) memories i memory c.memory memory.initial h (ap (λ (m : Memory). m.initial) is) s.filled);
-      same = e ∙ ap (λ (x : Configuration). record x { memory = set c.memory i memory.initial }) s.same ∙ ap (λ (values : List ℤ). record start { memory = values }) (sym values);
+      filled = rw values (IsFilled-more (λ (m : Memory). m.initial) (pos 0) memories i memory c.memory memory.initial
+          h (ap (λ (m : Memory). m.initial) is) s.filled);
+      same = e ∙ ap (λ (x : Configuration). record x { memory = set c.memory i memory.initial }) s.same
+          ∙ ap (λ (values : List ℤ). record start { memory = values }) (sym values);
     }
 
 pub IsSettingLast-start : (chart : Chart) (c : Configuration) → c.last ≡ replicate (length chart.states) None → IsSettingLast chart c 0 c
 IsSettingLast-start chart c e = record {
-  filled = IsFilled-start (first_last chart) None (range_with_len 0 (length chart.states)) c.last (let n = length-range_with_len 0 (length chart.states) in e ∙ ap (λ m. replicate {A = Option ℕ} m None) (sym n));
+  filled = IsFilled-start (first_last chart) None (range_with_len 0 (length chart.states)) c.last
+      (let n = length-range_with_len 0 (length chart.states) in e ∙ ap (λ m. replicate {A = Option ℕ} m None) (sym n));
   same = refl;
 }
 
-pub IsSettingLast-none : (chart : Chart) (start c : Configuration) (i : ℕ) → i < length chart.states → IsSettingLast chart start i c → slice_get c.last i ≡ Some None
-IsSettingLast-none chart start c i h s = let n = length-range_with_len 0 (length chart.states) in IsFilled-at (first_last chart) None (range_with_len 0 (length chart.states)) i c.last (omega arith) s.filled
+pub IsSettingLast-none : (chart : Chart) (start c : Configuration) (i : ℕ) → i < length chart.states
+    → IsSettingLast chart start i c → slice_get c.last i ≡ Some None
+IsSettingLast-none chart start c i h s = let n = length-range_with_len 0 (length chart.states) in
+    IsFilled-at (first_last chart) None (range_with_len 0 (length chart.states)) i c.last (omega arith) s.filled
 
-pub IsSettingLast-more : (chart : Chart) (start c d : Configuration) (i : ℕ) → i < length chart.states → d ≡ record c { last = set c.last i (first_last chart i) } → IsSettingLast chart start i c → IsSettingLast chart start (i + 1) d
+pub IsSettingLast-more : (chart : Chart) (start c d : Configuration) (i : ℕ) → i < length chart.states
+    → d ≡ record c { last = set c.last i (first_last chart i) } → IsSettingLast chart start i c
+    → IsSettingLast chart start (i + 1) d
 IsSettingLast-more chart start c d i h e s =
     let n = length-range_with_len 0 (length chart.states) in
     let inside : i < length (range_with_len 0 (length chart.states)) = omega arith in
     let last : d.last ≡ set c.last i (first_last chart i) = ap (λ (x : Configuration). x.last) e in
     let at : i ≡ get_or (range_with_len 0 (length chart.states)) i 0 = let g = get_or-range_with_len 0 (length chart.states) i 0 h in omega arith in
     record {
-      filled = rw last (IsFilled-more (first_last chart) None (range_with_len 0 (length chart.states)) i 0 c.last (first_last chart i) inside (ap (first_last chart) at) s.filled);
-      same = e ∙ ap (λ (x : Configuration). record x { last = set c.last i (first_last chart i) }) s.same ∙ ap (λ (last : List (Option ℕ)). record start { last = last }) (sym last);
+      filled = rw last (IsFilled-more (first_last chart) None (range_with_len 0 (length chart.states)) i 0 c.last
+          (first_last chart i) inside (ap (first_last chart) at) s.filled);
+      same = e ∙ ap (λ (x : Configuration). record x { last = set c.last i (first_last chart i) }) s.same
+          ∙ ap (λ (last : List (Option ℕ)). record start { last = last }) (sym last);
     }
 
-pub IsSettingLast-end : (chart : Chart) (start c : Configuration) (i : ℕ) → length chart.states ≤ i → IsSettingLast chart start i c → c ≡ record start { last = map (first_last chart) (range_with_len 0 (length chart.states)) }
+pub IsSettingLast-end : (chart : Chart) (start c : Configuration) (i : ℕ) → length chart.states ≤ i
+    → IsSettingLast chart start i c
+    → c ≡ record start { last = map (first_last chart) (range_with_len 0 (length chart.states)) }
 IsSettingLast-end chart start c i h s =
     let n = length-range_with_len 0 (length chart.states) in
-    s.same ∙ ap (λ (last : List (Option ℕ)). record start { last = last }) (IsFilled-end (first_last chart) None (range_with_len 0 (length chart.states)) i c.last (omega arith) s.filled)
+    s.same ∙ ap (λ (last : List (Option ℕ)). record start { last = last })
+    (IsFilled-end (first_last chart) None (range_with_len 0 (length chart.states)) i c.last (omega arith) s.filled)
 
 pub set_same : {X : Type 0} (xs : List X) (i : ℕ) (x : X) → slice_get xs i ≡ Some x → set xs i x ≡ xs
 set_same [] i x e = refl
@@ -126,7 +144,9 @@ AreLastChildren-declared chart s =
       child = λ t o g.
           let size = length-map-range_with_len (first_last chart) 0 n in
           let h = slice_get_within (map (first_last chart) (range_with_len 0 n)) t o g in
-          let is : first_last chart t ≡ o = sym (get_or-map-range_with_len (first_last chart) 0 n t t o (omega arith) (omega arith)) ∙ get_or_from_slice_get (map (first_last chart) (range_with_len 0 n)) t o o g in
+          let is : first_last chart t ≡ o =
+          sym (get_or-map-range_with_len (first_last chart) 0 n t t o (omega arith) (omega arith))
+          ∙ get_or_from_slice_get (map (first_last chart) (range_with_len 0 n)) t o o g in
           subst (IsLastOf chart t) is (IsLastOf-first chart t);
     }
 
@@ -142,7 +162,9 @@ AreValues-declared chart s = record {
 }
 
 -- the starting configuration
-pub IsConfiguration-started : (chart : Chart) (top : ℕ) (c d e : Configuration) → top < length chart.states → AreLastChildren chart c → AreValues chart e → d ≡ enter chart top c → e ≡ enter_all chart (way_down chart.states top) d → IsConfiguration chart e
+pub IsConfiguration-started : (chart : Chart) (top : ℕ) (c d e : Configuration) → top < length chart.states
+    → AreLastChildren chart c → AreValues chart e → d ≡ enter chart top c
+    → e ≡ enter_all chart (way_down chart.states top) d → IsConfiguration chart e
 IsConfiguration-started chart top c d e h last values entered down =
     let way = way_down chart.states top in
     let whole : e ≡ enter_all chart (top ∷ way) c = down ∙ ap (enter_all chart way) entered in

@@ -19,7 +19,8 @@ nearest memory z = if int_lt z memory.lo then memory.lo else (if int_lt memory.h
 
 -- a memory takes the value nearest to the sum within its range, an output takes the sum
 abbrev pub assign : List Memory → Place → ℤ → Configuration → Configuration
-assign memories (place.Memory number) z c = record c { memory = slice_set c.memory number (option_map_or (λ memory. nearest memory z) (slice_get memories number) z) }
+assign memories (place.Memory number) z c =
+    record c { memory = slice_set c.memory number (option_map_or (λ memory. nearest memory z) (slice_get memories number) z) }
 assign memories (place.Output number) z c = record c { outputs = slice_set c.outputs number z }
 
 -- one action: its sum for the values that it finds is assigned

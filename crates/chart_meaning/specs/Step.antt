@@ -1,5 +1,6 @@
 -- One step of a chart, on the tree of its states as it is written.
-use Rattle.std.specs.Prelude.{ℕ, ℤ, Bool, true, false, ◌&&◌, ◌==◌, if◌then◌else◌, List, [], ◌∷◌, ◌++◌, map, reverse, length, slice_get, slice_set, Option, None, Some, option_and_then, position, find}
+use Rattle.std.specs.Prelude.{ℕ, ℤ, Bool, true, false, ◌&&◌, ◌==◌, if◌then◌else◌, List, [], ◌∷◌, ◌++◌, map, reverse, length}
+use Rattle.std.specs.Prelude.{slice_get, slice_set, Option, None, Some, option_and_then, position, find}
 use Rattle.std.specs.Option.{option_map_or, option_or}
 use Rattle.std.specs.List.{list_any, range_with_len}
 use Rattle.chart_model.specs.declared.action.Action.{Action}
@@ -56,7 +57,9 @@ declared chart s = record {
 
 -- the starting configuration: the top start state is entered, and from there start children down to a leaf
 abbrev pub start_of : Chart → Configuration
-start_of chart = option_map_or (λ top. enter_all chart (top ∷ way_down chart.states top) (declared chart top)) (position is_top_start chart.states) (declared chart 0)
+start_of chart =
+    option_map_or (λ top. enter_all chart (top ∷ way_down chart.states top) (declared chart top))
+    (position is_top_start chart.states) (declared chart 0)
 
 -- the guard holds; a transition without a guard always holds
 abbrev pub is_guard_true : List ℤ → List ℤ → Transition → Bool
@@ -99,7 +102,8 @@ entered_by states source target = reverse (states_below (innermost_container sta
 
 -- the target is entered, and the states below it
 abbrev pub enter_target : Chart → Transition → ℕ → Configuration → Configuration
-enter_target chart transition target c = enter_all chart (entered_by chart.states transition.source target ++ way_below chart.states transition.history target c) c
+enter_target chart transition target c =
+    enter_all chart (entered_by chart.states transition.source target ++ way_below chart.states transition.history target c) c
 
 -- the exits, then the effect, then the entries of a transition with a target
 abbrev pub go_to : Chart → Transition → ℕ → Configuration → Configuration
@@ -113,7 +117,9 @@ take_transition chart transition c =
 
 -- the configuration after a step; if no transition fires, nothing changes
 abbrev pub next_of : Chart → Configuration → List ℤ → Configuration
-next_of chart c vector = option_map_or (λ transition. take_transition chart transition c) (firing chart.transitions vector c.memory (active_states chart.states c)) c
+next_of chart c vector =
+    option_map_or (λ transition. take_transition chart transition c)
+    (firing chart.transitions vector c.memory (active_states chart.states c)) c
 
 -- all output values after the step
 abbrev pub reply_of : Chart → Configuration → List ℤ → List ℤ

@@ -1,5 +1,6 @@
 //! Charts that are made from rows of numbers, with inputs v and w, outputs x and y, and a memory z.
-ghost use Rattle.std.specs.Prelude.{◌≡◌, ◌+◌, ◌<◌, ◌≤◌, ◌/◌, ◌%◌, ◌↔◌, ◌∷◌, ◌++◌, [], IfOk, IsTrue, count_by, length, map, max, slice_get, true, unsigned_abs, ℕ};
+ghost use Rattle.std.specs.Prelude.{◌≡◌, ◌+◌, ◌<◌, ◌≤◌, ◌/◌, ◌%◌, ◌↔◌, ◌∷◌, ◌++◌, [], IfOk, IsTrue, ℕ};
+ghost use Rattle.std.specs.Prelude.{count_by, length, map, max, slice_get, true, unsigned_abs};
 ghost use Rattle.std.specs.List.{All, range_with_len};
 ghost use Rattle.std.specs.Option.{ForSome, option_map_or};
 ghost use Rattle.lin_form.specs.Range.{IsCount};
@@ -147,7 +148,8 @@ fn state(rt: &impl Abort, alloc: Global, number: usize, row: StateRow) -> Result
 /// States that are named AA, AB and so on.
 fn states(rt: &impl Abort, alloc: Global, rows: &[StateRow]) -> Result<Items<State>, AllocError>
     ensures states { IfOk result (λ states. All (IsState 2 1 2) states) }
-    ensures names { IfOk result (λ states. map (λ state. state.name) states ≡ map (λ number. (number / 8 + 65) ∷ (number % 8 + 65) ∷ []) (range_with_len 0 (length states))) }
+    ensures names { IfOk result (λ states. map (λ state. state.name) states
+        ≡ map (λ number. (number / 8 + 65) ∷ (number % 8 + 65) ∷ []) (range_with_len 0 (length states))) }
     ensures few { IfOk result (λ states. length states ≤ 64) }
 {
     assert!(rt; rows.len() <= 64);

@@ -29,15 +29,36 @@ impl Model for Config {
 
     ghost Value = { Configuration };
 
-    ghost view = { λ c. record { leaf = c.leaf; memory = take c.memory_count c.memory; outputs = take c.output_count c.outputs; last = map child_of (take c.state_count c.last) } };
+    ghost view = { λ c. record {
+      leaf = c.leaf;
+      memory = take c.memory_count c.memory;
+      outputs = take c.output_count c.outputs;
+      last = map child_of (take c.state_count c.last);
+    } };
 
     ghost invariant = { λ c. IsStored c.memory_count c.output_count c.state_count c.memory c.outputs c.last };
 
-    ghost inverse = { λ c. record { outputs = padded (pos 0) 8 c.outputs; memory = padded (pos 0) 4 c.memory; last = padded 0 64 (map code_of c.last); leaf = c.leaf; memory_count = length c.memory; output_count = length c.outputs; state_count = length c.last } };
+    ghost inverse = { λ c. record {
+      outputs = padded (pos 0) 8 c.outputs;
+      memory = padded (pos 0) 4 c.memory;
+      last = padded 0 64 (map code_of c.last);
+      leaf = c.leaf;
+      memory_count = length c.memory;
+      output_count = length c.outputs;
+      state_count = length c.last;
+    } };
 
     ghost use Rattle.chart_meaning.specs.Same.{codes-taken, length-children};
 
-    ghost inverse_ok = { λ c h i. record { outputs = padded-take h.output_places i; memory = padded-take h.memory_places i; last = codes-taken h.last_places i; leaf = c.leaf; memory_count = length-taken h.memory_places i; output_count = length-taken h.output_places i; state_count = length-children h.last_places i } };
+    ghost inverse_ok = { λ c h i. record {
+      outputs = padded-take h.output_places i;
+      memory = padded-take h.memory_places i;
+      last = codes-taken h.last_places i;
+      leaf = c.leaf;
+      memory_count = length-taken h.memory_places i;
+      output_count = length-taken h.output_places i;
+      state_count = length-children h.last_places i;
+    } };
 }
 
 /// No state has a last child.

@@ -21,7 +21,9 @@ pub fn firing<'a>(
     requires rows { AreRows chart.now config.now.leaf rows.now }
     requires input { IsInInputRanges chart.now.signature.inputs input.now }
     requires values { AreValues chart.now config.now }
-    ensures { IsRowThatFires chart.now config.now.leaf (firing chart.now.transitions input.now config.now.memory (active_states chart.now.states config.now)) (option_copied result) }
+    ensures { IsRowThatFires chart.now config.now.leaf
+        (firing chart.now.transitions input.now config.now.memory (active_states chart.now.states config.now))
+        (option_copied result) }
 {
     let memory = config.memory();
     for row in rows {
@@ -35,7 +37,8 @@ pub fn firing<'a>(
 
 /// Whether a transition's guard holds for an input vector and the memories' values, or it has none.
 fn is_guard_true(chart: &Chart, transition: &Transition, input: &Vector, memory: &[i64; 4]) -> bool
-    requires transition { IsTransition (length chart.now.signature.inputs) (length chart.now.memories) (length chart.now.signature.outputs) chart.now.states transition.now }
+    requires transition { IsTransition (length chart.now.signature.inputs) (length chart.now.memories)
+        (length chart.now.signature.outputs) chart.now.states transition.now }
     requires input { IsInInputRanges chart.now.signature.inputs input.now }
     requires values { AreWithin 1000 memory.now }
     ensures { result ≡ is_guard_true input.now memory.now transition.now }

@@ -86,7 +86,9 @@ fn add_rows_from(
     rows: &mut Vec<Row>,
 ) -> Result<(), AllocError>
     requires leaf { leaf < length chart.now.states }
-    ensures { OnOk result ((seen : List Transition) → AllZip (IsRowOf chart.now leaf) seen rows.old.items → AllZip (IsRowOf chart.now leaf) (seen ++ filter (λ transition. transition.source == state) chart.now.transitions) rows.new.items) }
+    ensures { OnOk result ((seen : List Transition) → AllZip (IsRowOf chart.now leaf) seen rows.old.items
+        → AllZip (IsRowOf chart.now leaf)
+        (seen ++ filter (λ transition. transition.source == state) chart.now.transitions) rows.new.items) }
 {
     for (number, transition) in chart.transitions.as_slice().iter().enumerate() {
         if transition.source == state {

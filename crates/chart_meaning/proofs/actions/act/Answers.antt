@@ -8,7 +8,9 @@ use Rattle.chart_meaning.proofs.Acting.{AreWithin-padded, act-memory, act-output
 use Rattle.chart_meaning.proofs.actions.act.Goals as goal
 
 pub sum-value-requires-clause-small : goal.sum-value-requires-clause-small
-sum-value-requires-clause-small c = rw c.memory.ensures (AreWithin-padded c.args.chart.now.memories c.args.config.now.memory c.args.chart.now.kept.ranges c.requires.values.memory)
+sum-value-requires-clause-small c =
+    rw c.memory.ensures (AreWithin-padded c.args.chart.now.memories c.args.config.now.memory
+    c.args.chart.now.kept.ranges c.requires.values.memory)
 
 pub set_memory-requires-clause-inside : goal.set_memory-requires-clause-inside
 set_memory-requires-clause-inside c =
@@ -30,7 +32,8 @@ returns-in-Memory-clause-act c =
     let value = simp to_z-of_z at c.nearest.ensures.value in
     let set = simp to_z-of_z at c.set_memory.ensures in
     let sum = rw c.memory.ensures at c.sum-value.ensures.value in
-    rw (set, value) (sym (act-memory c.args.chart.now.memories c.args.action.now c.args.config.now c.in-Memory.number c.index-as_slice-number.result c.sum-value.result c.in-Memory.is (found c.before) sum))
+    rw (set, value) (sym (act-memory c.args.chart.now.memories c.args.action.now c.args.config.now c.in-Memory.number
+    c.index-as_slice-number.result c.sum-value.result c.in-Memory.is (found c.before) sum))
 
 pub returns-in-Memory-clause-values : goal.returns-in-Memory-clause-values
 returns-in-Memory-clause-values c =
@@ -40,7 +43,8 @@ returns-in-Memory-clause-values c =
     let set = simp to_z-of_z at c.set_memory.ensures in
     let f = found c.before in
     let m = All_found IsMemory c.args.chart.now.memories c.in-Memory.number c.index-as_slice-number.result c.args.chart.now.kept.ranges f in
-    rw (set, value) (AreValues-memory c.args.chart.now c.args.config.now c.in-Memory.number c.index-as_slice-number.result c.sum-value.result f m c.requires.values)
+    rw (set, value) (AreValues-memory c.args.chart.now c.args.config.now c.in-Memory.number
+    c.index-as_slice-number.result c.sum-value.result f m c.requires.values)
 
 pub returns-in-Output-clause-act : goal.returns-in-Output-clause-act
 returns-in-Output-clause-act c =

@@ -33,7 +33,11 @@ loop-index-preserved c =
     simp to_z-of_z s.next
 
 pub returns-clause-value : goal.returns-clause-value
-returns-clause-value c = sum_whole c.args.coefficients.now c.args.values.now c.loop-index.index _ c.told-coefficients c.told-values c.loop-index-test.false c.loop-index.invariant
+returns-clause-value c =
+    sum_whole c.args.coefficients.now c.args.values.now c.loop-index.index _ c.told-coefficients c.told-values
+    c.loop-index-test.false c.loop-index.invariant
 
 pub returns-clause-bound : goal.returns-clause-bound
-returns-clause-bound c = sum_whole-bound c.args.coefficients.now c.args.values.now c.loop-index.index _ c.requires.moderate c.requires.small c.loop-index.invariant
+returns-clause-bound c =
+    sum_whole-bound c.args.coefficients.now c.args.values.now c.loop-index.index _ c.requires.moderate
+    c.requires.small c.loop-index.invariant

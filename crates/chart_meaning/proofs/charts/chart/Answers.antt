@@ -11,4 +11,10 @@ invariant_of-result g c =
     let m = c.memory.ensures in
     let s = c.in_ok-states.ensures in
     let moves = rw c.as_slice.ensures at c.in_ok-transitions.ensures.moves in
-    rw (memories, initial, c.new.ensures) (record { kept = IsChart-small c.in_ok-signature.signature c.args.initial c.memory.result c.in_ok-states.states c.in_ok-transitions.transitions c.in_ok-signature.ensures.inputs c.in_ok-signature.ensures.outputs small m.memory m.name m.size s.count s.names s.tree s.states c.in_ok-transitions.ensures.few moves })
+    rw (memories, initial, c.new.ensures)
+    (record {
+      kept = IsChart-small c.in_ok-signature.signature c.args.initial c.memory.result
+          c.in_ok-states.states c.in_ok-transitions.transitions c.in_ok-signature.ensures.inputs
+          c.in_ok-signature.ensures.outputs small m.memory m.name m.size s.count s.names s.tree s.states
+          c.in_ok-transitions.ensures.few moves;
+    })

@@ -7,5 +7,6 @@ use Rattle.chart_meaning.proofs.charts.guard.Goals as goal
 pub loop-test-preserved : goal.loop-test-preserved
 loop-test-preserved g c =
     let before = option_map_or (λ guard. comparisons_of (plain guard)) c.loop-test.all [] in
-    let more = more_tests before _ _ c.loop-test.test-index c.in_ok-and_test.ensures.tests c.loop-test.invariant.0 c.form-form.ensures.over c.loop-test.invariant.1 in
+    let more = more_tests before _ _ c.loop-test.test-index c.in_ok-and_test.ensures.tests c.loop-test.invariant.0
+    c.form-form.ensures.over c.loop-test.invariant.1 in
     (more.0, more.1, omega (arith, c.in_ok-and_test.ensures.depth, c.loop-test.invariant.2))

@@ -8,4 +8,5 @@ use Rattle.chart_meaning.proofs.charts.guard.Given as goal
 
 abbrev pub invariant-loop-test : goal.invariant-loop-test
 invariant-loop-test g l = All (λ (c : Comparison). IsFormOver 2 1 c.form) (option_map_or (λ guard. comparisons_of (plain guard)) l.all [])
-    × (length (option_map_or (λ guard. comparisons_of (plain guard)) l.all []) ≤ l.test-index) × (option_map_or (λ guard. depth_of_guard (plain guard)) l.all 0 ≤ l.test-index + 1)
+    × (length (option_map_or (λ guard. comparisons_of (plain guard)) l.all []) ≤ l.test-index)
+    × (option_map_or (λ guard. depth_of_guard (plain guard)) l.all 0 ≤ l.test-index + 1)

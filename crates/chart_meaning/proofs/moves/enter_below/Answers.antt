@@ -9,7 +9,11 @@ overflow_cast-child c =
     omega arith
 
 pub enter-requires-clause-state : goal.enter-requires-clause-state
-enter-requires-clause-state c = last_child-inside c.args.chart.now c.args.config.now c.args.target c.in-Some.child c.requires.last (sym c.last_child.ensures ∙ c.in-Some.is)
+enter-requires-clause-state c =
+    last_child-inside c.args.chart.now c.args.config.now c.args.target c.in-Some.child c.requires.last
+    (sym c.last_child.ensures ∙ c.in-Some.is)
 
 pub enter_down-requires-in-Some-clause-state : goal.enter_down-requires-in-Some-clause-state
-enter_down-requires-in-Some-clause-state c = last_child-inside c.args.chart.now c.args.config.now c.args.target c.in-Some.child c.requires.last (sym c.last_child.ensures ∙ c.in-Some.is)
+enter_down-requires-in-Some-clause-state c =
+    last_child-inside c.args.chart.now c.args.config.now c.args.target c.in-Some.child c.requires.last
+    (sym c.last_child.ensures ∙ c.in-Some.is)

@@ -5,7 +5,8 @@ use Rattle.chart_meaning.proofs.moves.remember.Goals as goal
 pub returns-then-is_some-clause-last_child : goal.returns-then-is_some-clause-last_child
 returns-then-is_some-clause-last_child c =
     let some = ap is_some (sym c.last_child.ensures) ∙ sym c.is_some.ensures ∙ c.if-is_some.true in
-    rw c.in-Some.is (remember-Some c.args.chart.now c.args.config.now _ c.args.state c.in-Some.child c.requires.last c.requires.state some c.set_last_child.ensures)
+    rw c.in-Some.is (remember-Some c.args.chart.now c.args.config.now _ c.args.state c.in-Some.child c.requires.last
+    c.requires.state some c.set_last_child.ensures)
 
 pub returns-then-is_some-clause-last : goal.returns-then-is_some-clause-last
 returns-then-is_some-clause-last c =

@@ -7,4 +7,6 @@ pub loop-number-preserved : goal.loop-number-preserved
 loop-number-preserved c =
     let wide : FitsSigned w64 c.index-memories-number.result.initial = search rules in
     let set = simp to_z-of_z at c.set_memory.ensures in
-    IsSettingInitial-more c.args.memories.now c.args.config.now c.loop-number.config c.set_memory.new.self c.loop-number.number c.index-memories-number.result c.loop-number-test.true c.index-memories-number.is set c.loop-number.invariant
+    IsSettingInitial-more c.args.memories.now c.args.config.now c.loop-number.config c.set_memory.new.self
+    c.loop-number.number c.index-memories-number.result c.loop-number-test.true c.index-memories-number.is set
+    c.loop-number.invariant

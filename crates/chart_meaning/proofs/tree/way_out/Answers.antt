@@ -10,10 +10,13 @@ pub loop-at-preserved : goal.loop-at-preserved
 loop-at-preserved c =
     let walk = rw c.in-Some.is at c.loop-at.invariant in
     let found = slice_get-get_or c.args.states.now c.in-Some.inner c.index-states-inner.result (walk.inside c.in-Some.inner refl) in
-    rw (c.push.ensures, ← parent_read c.args.states.now c.in-Some.inner _ found) (walking_out-more c.args.states.now c.args.state c.loop-at.way c.in-Some.inner c.requires.tree walk)
+    rw (c.push.ensures, ← parent_read c.args.states.now c.in-Some.inner _ found)
+    (walking_out-more c.args.states.now c.args.state c.loop-at.way c.in-Some.inner c.requires.tree walk)
 
 pub returns-clause-some : goal.returns-clause-some
-returns-clause-some c = rw (walking_out-end c.args.states.now c.args.state c.loop-at.way (rw c.in_default.is at c.loop-at.invariant)) (way_out-some c.args.states.now c.args.state)
+returns-clause-some c =
+    rw (walking_out-end c.args.states.now c.args.state c.loop-at.way (rw c.in_default.is at c.loop-at.invariant))
+    (way_out-some c.args.states.now c.args.state)
 
 pub returns-clause-way : goal.returns-clause-way
 returns-clause-way c = walking_out-end c.args.states.now c.args.state c.loop-at.way (rw c.in_default.is at c.loop-at.invariant)
