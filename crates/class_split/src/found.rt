@@ -16,7 +16,9 @@ pub(crate) struct Found {
 }
 
 /// A vector of the region, if it has one: the least one of its part if it is one.
-pub(crate) fn found_in(alloc: Global, region: &Region) -> Option<Found>
+///
+/// The tableau may hold anything before.
+pub(crate) fn found_in(alloc: Global, region: &Region, relaxation: &mut Relaxation) -> Option<Found>
     requires { IsShaped region.now.kept.items region.now.part }
     ensures { MatchOption result (IsEmptyRegion region.now) (λ f. IsFound region.now f) }
 {
@@ -26,11 +28,16 @@ pub(crate) fn found_in(alloc: Global, region: &Region) -> Option<Found>
             is_least: true,
         });
     }
-    found_by(alloc, region.kept.as_slice(), &region.part)
+    found_by(alloc, region.kept.as_slice(), &region.part, relaxation)
 }
 
 /// The same for a part and literals: the least vector of the tightened part if it is one.
-fn found_by(alloc: Global, literals: &[Literal], part: &Part) -> Option<Found>
+fn found_by(
+    alloc: Global,
+    literals: &[Literal],
+    part: &Part,
+    relaxation: &mut Relaxation,
+) -> Option<Found>
     requires { IsShaped literals.now part.now }
     ensures { MatchOption result (HasNone literals.now part.now) (λ f. IsFoundIn literals.now part.now f) }
 {
@@ -43,8 +50,7 @@ fn found_by(alloc: Global, literals: &[Literal], part: &Part) -> Option<Found>
             is_least: true,
         });
     }
-    let mut relaxation = Relaxation::new();
-    match seek(alloc, literals, &tight, &mut relaxation) {
+    match seek(alloc, literals, &tight, relaxation) {
         Some(vector) => Some(Found {
             vector,
             is_least: false,

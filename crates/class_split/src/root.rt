@@ -7,7 +7,7 @@ use crate::found::found_in;
 use crate::node::Node;
 use crate::region::{Region, restricted};
 use lin_form::{Atom, Bounds, Literal};
-use linear_refuter::{Answer, Part, Tree, decide};
+use linear_refuter::{Answer, Part, Relaxation, Tree, decide};
 use std::alloc::{AllocError, Global};
 
 /// The node of all vectors of a box, or why there is none.
@@ -22,6 +22,7 @@ pub(crate) fn root_of(
     atoms: &[Atom],
     bounds: &Bounds,
     assumed: &[Literal],
+    relaxation: &mut Relaxation,
 ) -> Result<Root, AllocError>
     requires few { length assumed.now ≤ 32 }
     requires shaped { IsShaped assumed.now bounds.now }
@@ -29,7 +30,7 @@ pub(crate) fn root_of(
     ensures { IfOk result (λ r. IsRoot atoms.now bounds.now assumed.now r) }
 {
     let region = box_region(alloc, bounds, assumed)?;
-    match found_in(alloc, &region) {
+    match found_in(alloc, &region, relaxation) {
         Some(found) => Ok(Root::Start(Node {
             region,
             vector: found.vector,

@@ -5,6 +5,7 @@ use crate::found::found_in;
 use crate::node::Node;
 use crate::region::restricted;
 use lin_form::{Atom, atom_holds};
+use linear_refuter::Relaxation;
 use std::alloc::{AllocError, Global};
 
 /// The vectors of a node on which an atom does not hold, and those on which it holds, or all where only one side has
@@ -20,6 +21,7 @@ pub(crate) fn sides_of(
     atoms: &[Atom],
     index: usize,
     node: Node,
+    relaxation: &mut Relaxation,
 ) -> Result<Sides, AllocError>
     requires short { length atoms.now ≤ 128 }
     requires index { index < length atoms.now }
@@ -29,7 +31,7 @@ pub(crate) fn sides_of(
     let atom = &atoms[index];
     let truth = atom_holds(atom, &node.vector);
     let region = restricted(alloc, &node.region, atom, !truth)?;
-    match found_in(alloc, &region) {
+    match found_in(alloc, &region, relaxation) {
         None => Ok(Sides::One(Node {
             region: node.region,
             vector: node.vector,

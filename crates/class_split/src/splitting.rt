@@ -9,7 +9,7 @@ use crate::root::{Root, root_of};
 use crate::tree::add_leaves;
 use input_classes::Class;
 use lin_form::{Atoms, Bounds, Literal};
-use linear_refuter::Tree;
+use linear_refuter::{Relaxation, Tree};
 use std::alloc::{AllocError, Global};
 
 /// Why there is no partition.
@@ -75,11 +75,12 @@ fn classes(
     ensures { IfOk result (λ o. IsOutcome atoms.now bounds.now assumed.now o) }
 {
     let atoms = atoms.as_slice();
-    match root_of(alloc, atoms, bounds, assumed)? {
+    let mut relaxation = Relaxation::new();
+    match root_of(alloc, atoms, bounds, assumed, &mut relaxation)? {
         Root::Refuted(tree) => Ok(Outcome::NoInput(tree)),
         Root::Start(node) => {
             let mut leaves = Vec::new(alloc);
-            if !add_leaves(alloc, atoms, 0, node, &mut leaves)? {
+            if !add_leaves(alloc, atoms, 0, node, &mut leaves, &mut relaxation)? {
                 return Ok(Outcome::TooMany);
             }
             Ok(Outcome::Classes(classes_of(alloc, atoms, leaves.as_slice())?))

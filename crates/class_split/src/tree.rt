@@ -4,6 +4,7 @@ ghost use Rattle.class_split.specs.inside.Node.{Adds, IsNode};
 use crate::node::{Node, skipped};
 use crate::sides::{Sides, sides_of};
 use lin_form::Atom;
+use linear_refuter::Relaxation;
 use std::alloc::{AllocError, Global};
 
 /// The most classes that a partition has.
@@ -17,6 +18,7 @@ pub(crate) fn add_leaves(
     first: usize,
     node: Node,
     leaves: &mut Vec<Node>,
+    relaxation: &mut Relaxation,
 ) -> Result<bool, AllocError>
     requires short { length atoms.now ≤ 128 }
     requires first { first ≤ length atoms.now }
@@ -37,13 +39,13 @@ pub(crate) fn add_leaves(
         }
         return Ok(true);
     }
-    match sides_of(alloc, atoms, index, node)? {
-        Sides::One(next) => add_leaves(alloc, atoms, index + 1, next, leaves),
+    match sides_of(alloc, atoms, index, node, relaxation)? {
+        Sides::One(next) => add_leaves(alloc, atoms, index + 1, next, leaves, relaxation),
         Sides::Two(low, high) => {
-            if !add_leaves(alloc, atoms, index + 1, low, leaves)? {
+            if !add_leaves(alloc, atoms, index + 1, low, leaves, relaxation)? {
                 return Ok(false);
             }
-            add_leaves(alloc, atoms, index + 1, high, leaves)
+            add_leaves(alloc, atoms, index + 1, high, leaves, relaxation)
         }
     }
 }

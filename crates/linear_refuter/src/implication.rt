@@ -13,6 +13,9 @@ pub fn implied(literals: &[Literal], part: &Part, atom: &Atom) -> Option<bool>
     requires { length atom.now.coefficients ≡ length part.now }
     ensures { IfSome result (λ t. HasTruth literals.now part.now atom.now t) }
 {
+    if let Some(truth) = implied_by_one(literals, atom) {
+        return Some(truth);
+    }
     let (least, greatest) = ends(part, atom);
     if least >= 0 {
         return Some(true);
@@ -20,7 +23,7 @@ pub fn implied(literals: &[Literal], part: &Part, atom: &Atom) -> Option<bool>
     if greatest < 0 {
         return Some(false);
     }
-    implied_by_one(literals, atom)
+    None
 }
 
 /// The truth of an atom that one of the literals tells.
@@ -39,14 +42,15 @@ fn implied_by_one(literals: &[Literal], atom: &Atom) -> Option<bool>
 fn implied_by(literal: &Literal, atom: &Atom) -> Option<bool>
     ensures { IfSome result (λ t. (x : List ℤ) → IsAsSaid literal.now x → atom_truth atom.now x ≡ t) }
 {
-    if !are_same(&literal.atom.coefficients, &atom.coefficients) {
-        return None;
-    }
     if literal.holds {
-        if literal.atom.constant <= atom.constant {
+        if literal.atom.constant <= atom.constant
+            && are_same(&literal.atom.coefficients, &atom.coefficients)
+        {
             return Some(true);
         }
-    } else if atom.constant <= literal.atom.constant {
+    } else if atom.constant <= literal.atom.constant
+        && are_same(&literal.atom.coefficients, &atom.coefficients)
+    {
         return Some(false);
     }
     None
