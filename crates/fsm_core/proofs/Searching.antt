@@ -1,5 +1,6 @@
 -- The search for the states that are reached from the start.
-use Rattle.std.proofs.Common.{◌≡◌, ℕ, ◌+◌, ◌<◌, ◌≤◌, ◌⊎◌, Bool, true, false, List, [], ◌∷◌, ◌++◌, length, get_or, set, refl, ap, sym, ◌∙◌, inl, inr, ◌↔◌, All, arith}
+use Rattle.std.proofs.Common.{◌≡◌, ℕ, ◌+◌, ◌<◌, ◌≤◌, ◌⊎◌, Bool, true, false, List, [], ◌∷◌, ◌++◌, length, get_or, set}
+use Rattle.std.proofs.Common.{refl, ap, sym, ◌∙◌, inl, inr, ◌↔◌, All, arith}
 use Rattle.std.proofs.lemmas.Bool.{both_ways, cases_eq, cases_lt}
 use Rattle.std.proofs.lemmas.List.{get_or_append_left, get_or_push, get_or-set_other, get_or-set_same, length_push, length-set}
 use Rattle.std.proofs.lemmas.List.Elements.{All-from_get_or, All-get_or, All-head, All-push, All-tail}
@@ -193,9 +194,11 @@ module _ (m : Machine) (sound : IsMachine m) (flags : List Bool) (found : List F
               | inr d ↦ let p = s.each i b hi' hb (inr (here.0, omega (arith, here.1, d))) in (p.0, kept i b p.0 hi' p.1)
             ]
           ];
-      latest = later (λ y. IsTriedBefore y.from y.letter at (a + 1)) (λ k z h. next_letter (found_at found k).from (found_at found k).letter at a (s.latest k z h))
+      latest = later (λ y. IsTriedBefore y.from y.letter at (a + 1)) (λ k z h. next_letter (found_at found k).from
+          (found_at found k).letter at a (s.latest k z h))
           (inr (x_from, omega (arith, x_letter)));
-      ordered = λ j k z less hk. elim (cases_lt k (length found)) as (λ _. IsTriedBefore (found_at (found ++ x ∷ []) j).from (found_at (found ++ x ∷ []) j).letter
+      ordered = λ j k z less hk. elim (cases_lt k (length found)) as (λ _. IsTriedBefore
+          (found_at (found ++ x ∷ []) j).from (found_at (found ++ x ∷ []) j).letter
           (found_at (found ++ x ∷ []) k).from (found_at (found ++ x ∷ []) k).letter) [
             | inl h ↦ rw (old j (omega (arith, less, h)), old k h) (s.ordered j k z less h)
             | inr h ↦ rw (old j (omega (arith, less, last k h hk)), new_at k (last k h hk), x_from, x_letter) (s.latest j z (omega (arith, less, last k h hk)))
@@ -207,7 +210,8 @@ row_over i b at a (inl h) = inl (omega (arith, h))
 row_over i b at a (inr h) = inl (omega (arith, h.0))
 
 -- all letters were tried
-pub search_more : (m : Machine) (flags : List Bool) (found : List Found) (at a : ℕ) → IsSearch m flags found at a → m.letters ≤ a → IsSearch m flags found (at + 1) 0
+pub search_more : (m : Machine) (flags : List Bool) (found : List Found) (at a : ℕ) → IsSearch m flags found at a →
+    m.letters ≤ a → IsSearch m flags found (at + 1) 0
 search_more m flags found at a s h = record {
   size = s.size;
   some = s.some;

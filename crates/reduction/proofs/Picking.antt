@@ -1,5 +1,6 @@
 -- The first state of each block, and the rows and replies of the machine whose states are the blocks.
-use Rattle.std.proofs.Common.{◌≡◌, ℕ, ℤ, ◌+◌, ◌*◌, ◌/◌, ◌%◌, ◌<◌, ◌≤◌, List, [], ◌∷◌, ◌++◌, length, get_or, take, slice_get, Some, refl, ap, sym, ◌∙◌, inl, inr, arith}
+use Rattle.std.proofs.Common.{◌≡◌, ℕ, ℤ, ◌+◌, ◌*◌, ◌/◌, ◌%◌, ◌<◌, ◌≤◌, List, [], ◌∷◌, ◌++◌, length, get_or, take}
+use Rattle.std.proofs.Common.{slice_get, Some, refl, ap, sym, ◌∙◌, inl, inr, arith}
 use Rattle.std.proofs.lemmas.Bool.{cases_lt}
 use Rattle.std.proofs.lemmas.List.{get_or_append_left, get_or_push, length_push, take_more}
 use Rattle.std.proofs.lemmas.Nat.{div-mul-add, mod-mul-add, mul-add-lt}
@@ -70,7 +71,8 @@ pub record AreRowsBelow (m : Machine) (blocks representatives : List ℕ) (rows 
   pub row : (place : ℕ) → place < length rows → get_or rows place (0, 0) ≡ row_of m blocks representatives place
 
 pub rows_more : (m : Machine) (blocks representatives : List ℕ) (rows : List (ℕ × ℕ)) (at : ℕ) → AreRowsBelow m blocks representatives rows at →
-    (r : ℕ × ℕ) → r ≡ row_of m blocks representatives at → (rows' : List (ℕ × ℕ)) → rows' ≡ rows ++ r ∷ [] → AreRowsBelow m blocks representatives rows' (at + 1)
+    (r : ℕ × ℕ) → r ≡ row_of m blocks representatives at → (rows' : List (ℕ × ℕ)) → rows' ≡ rows ++ r ∷ [] →
+    AreRowsBelow m blocks representatives rows' (at + 1)
 rows_more m blocks representatives rows at h r e rows' grown = rw (grown) record {
   size = length_push rows r ∙ ap (λ n. n + 1) h.size;
   row = each_pushed (λ place x. x ≡ row_of m blocks representatives place) rows r (0, 0) h.row (e ∙ ap (row_of m blocks representatives) (sym h.size));
@@ -85,6 +87,7 @@ rows_all m blocks representatives rows at h end = record {
       rw (h.row (i * m.letters + a) (omega (arith, h.size, end, low)), div-mul-add i m.letters a ha, mod-mul-add i m.letters a ha) refl;
 }
 
-pub reply_more : (replies found : List (List ℤ)) (n : ℕ) (r : List ℤ) → found ≡ take n replies → slice_get replies n ≡ Some r → found ++ r ∷ [] ≡ take (n + 1) replies
+pub reply_more : (replies found : List (List ℤ)) (n : ℕ) (r : List ℤ) → found ≡ take n replies →
+    slice_get replies n ≡ Some r → found ++ r ∷ [] ≡ take (n + 1) replies
 reply_more replies found n r e h =
     rw (e, take_more replies n [] (slice_get_within replies n r h), get_or_from_slice_get replies n r [] h) refl

@@ -1,5 +1,6 @@
 -- One letter splits the blocks.
-use Rattle.std.proofs.Common.{◌≡◌, ℕ, ◌+◌, ◌<◌, ◌&&◌, Bool, true, false, eqb, if◌then◌else◌, List, [], ◌∷◌, ◌++◌, length, get_or, slice_get, Some, refl, ap, sym, ◌∙◌, inl, inr, arith}
+use Rattle.std.proofs.Common.{◌≡◌, ℕ, ◌+◌, ◌<◌, ◌&&◌, Bool, true, false, eqb, if◌then◌else◌, List, [], ◌∷◌, ◌++◌}
+use Rattle.std.proofs.Common.{length, get_or, slice_get, Some, refl, ap, sym, ◌∙◌, inl, inr, arith}
 use Rattle.std.specs.List.{list_any, position_or_len}
 use Rattle.std.proofs.lemmas.Bool.{and_parts, and_from, both_ways, cases_Bool, cases_eq, cond-true, cond-false, eq-eqb, eqb-true, false_from_ne_true}
 use Rattle.std.proofs.lemmas.List.{length_push}
@@ -66,14 +67,16 @@ module _ (m : Machine) (old : List ℕ) (a : ℕ) (ordered : AreInOrder old) (ke
   }
 
   pub split_more : (key : Key) → key ≡ key_of m old a at → (keys' : List Key) → keys' ≡ (if list_any (same_key key) keys then keys else keys ++ key ∷ []) →
-      n ≡ position_or_len (same_key key) keys → (k : Key) × ((slice_get keys' n ≡ Some k) × (same_key key k ≡ true)) → IsSplit m old a keys' (new ++ n ∷ []) (at + 1)
+      n ≡ position_or_len (same_key key) keys → (k : Key) × ((slice_get keys' n ≡ Some k) × (same_key key k ≡ true)) →
+      IsSplit m old a keys' (new ++ n ∷ []) (at + 1)
   split_more key is keys' grown place found = elim (cases_Bool (list_any (same_key key) keys)) as (λ _. IsSplit m old a keys' (new ++ n ∷ []) (at + 1)) [
     | inl there ↦
         let e : keys' ≡ keys = grown ∙ cond-true (list_any (same_key key) keys) keys (keys ++ key ∷ []) there in
         rw (e) (split_again (rw (e) at (found.1.0 ∙ ap Some (sym (from_same_key key found.0 found.1.1) ∙ is))))
     | inr none ↦
         let e : keys' ≡ keys ++ key ∷ [] = grown ∙ cond-false (list_any (same_key key) keys) keys (keys ++ key ∷ []) none in
-        let last : n ≡ length keys = place ∙ position_or_len_is (same_key key) keys (length keys) key (omega arith) (absent_at keys key none) (λ h. absurd (omega (arith, h))) in
+        let last : n ≡ length keys = place ∙ position_or_len_is (same_key key) keys (length keys) key (omega arith)
+        (absent_at keys key none) (λ h. absurd (omega (arith, h))) in
         rw (e, is) (split_new last (λ k h g. both_ways (same_key key (get_or keys k key)) (absent_at keys key none k h)
         (ap (same_key key) (get_or_from_slice_get keys k (key_of m old a at) key g ∙ sym is) ∙ same_key_itself key)))
   ]

@@ -34,6 +34,20 @@ AreAlikeOn m blocks a s t = (number m s a ≡ number m t a) × (slice_index bloc
 abbrev pub AgreeOn : Machine → List ℕ → ℕ → List ℕ → Type 0
 AgreeOn m old a new = (s t : ℕ) → s < length new → t < length new → slice_index new s ≡ slice_index new t → AreAlikeOn m old a s t
 
+-- each of the letters is answered alike by two states, and leads them to one block
+abbrev pub AreAlikeOnEach : Machine → List ℕ → List ℕ → ℕ → ℕ → Type 0
+AreAlikeOnEach m blocks letters s t = (i : ℕ) → i < length letters → AreAlikeOn m blocks (slice_index letters i) s t
+
+-- none of the letters splits a block
+abbrev pub AreStableOn : Machine → List ℕ → List ℕ → Type 0
+AreStableOn m letters blocks = (i : ℕ) → i < length letters → AgreeOn m blocks (slice_index letters i) blocks
+
+-- all letters of a machine, in order
+pub record AreAllLetters (m : Machine) (letters : List ℕ) : Type 0 where
+  pub are_letters : IsWord m letters
+  pub count : length letters ≡ m.letters
+  pub each : (a : ℕ) → a < length letters → slice_index letters a ≡ a
+
 -- no letter splits a block
 abbrev pub AreStable : Machine → List ℕ → Type 0
 AreStable m blocks = (a : ℕ) → a < m.letters → AgreeOn m blocks a blocks

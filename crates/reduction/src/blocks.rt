@@ -1,7 +1,9 @@
-ghost use Rattle.std.specs.Prelude.{◌≡◌, ℕ, ◌<◌, length, IfOk, IfNone, IfSome, IsTrue, MatchBool, sum};
-ghost use Rattle.reduction.specs.Blocks.{AgreeOn, AreAlikeOn, AreBlocks, AreFiner, AreStable};
+ghost use Rattle.std.specs.Prelude.{◌≡◌, ◌<◌, length, IfOk, IfNone, IfSome, MatchBool, sum};
+ghost use Rattle.fsm_core.specs.Machine.{IsWord};
+ghost use Rattle.reduction.specs.Blocks.{AgreeOn, AreAlikeOn, AreAlikeOnEach, AreBlocks, AreFiner, AreStable, AreStableOn};
 
-use crate::first_splits::{split_by_replies, split_by_sources};
+use crate::columns::all_letters;
+use crate::first_splits::split_first;
 use crate::quotient::representatives_of;
 use fsm_core::Fsm;
 use indexmap::IndexSet;
@@ -18,32 +20,16 @@ struct Key {
 
 /// The blocks of the states that answer alike. They are split until no letter splits a block.
 ///
-/// Where a few rounds do not get there, a work list finds the splits; that none is left is seen by a last round.
+/// Most splits are found without looking at all letters; that none is left is seen by a last round.
 pub fn stable_blocks(alloc: Global, fsm: &Fsm) -> Result<Vec<usize>, AllocError>
     ensures blocks { IfOk result (λ v. AreBlocks fsm.now v.items) }
     ensures stable { IfOk result (λ v. AreStable fsm.now v.items) }
 {
     let mut blocks = vec![in alloc; 0; fsm.states()]?;
-    if !few_rounds(alloc, fsm, &mut blocks)? {
-        split_by_replies(alloc, fsm, &mut blocks)?;
-        split_by_sources(alloc, fsm, &mut blocks)?;
-        while round(alloc, fsm, &mut blocks)? {}
-    }
+    split_first(alloc, fsm, &mut blocks)?;
+    let letters = all_letters(alloc, fsm)?;
+    while round(alloc, fsm, letters.as_slice(), &mut blocks)? {}
     Ok(blocks)
-}
-
-/// Splits the blocks in a few rounds, and tells whether no letter splits a block then.
-fn few_rounds(alloc: Global, fsm: &Fsm, blocks: &mut Vec<usize>) -> Result<bool, AllocError>
-    requires { AreBlocks fsm.now blocks.old.items }
-    ensures blocks { IfOk result (λ _. AreBlocks fsm.now blocks.new.items) }
-    ensures stable { IfOk result (λ stable. IsTrue stable → AreStable fsm.now blocks.new.items) }
-{
-    for _ in 0..8 {
-        if !round(alloc, fsm, blocks)? {
-            return Ok(true);
-        }
-    }
-    Ok(false)
 }
 
 /// Splits the blocks by one letter.
@@ -74,43 +60,62 @@ pub fn split(
     Ok(finer)
 }
 
-/// The first letter that tells a state from another, by its reply or by the block that it leads to.
-fn first_difference(fsm: &Fsm, blocks: &[usize], state: usize, other: usize) -> Option<u16>
+/// The first of some letters that tells a state from another, by its reply or by the block that it leads to.
+fn first_difference(
+    fsm: &Fsm,
+    letters: &[u16],
+    blocks: &[usize],
+    state: usize,
+    other: usize,
+) -> Option<u16>
+    requires letters { IsWord fsm.now letters.now }
     requires size { length blocks.now ≡ fsm.now.states }
     requires state { state < fsm.now.states }
     requires other { other < fsm.now.states }
     ensures differ { IfSome result (λ a. (a < fsm.now.letters) × ¬ AreAlikeOn fsm.now blocks.now a state other) }
-    ensures alike { IfNone result ((a : ℕ) → a < fsm.now.letters → AreAlikeOn fsm.now blocks.now a state other) }
+    ensures alike { IfNone result (AreAlikeOnEach fsm.now blocks.now letters.now state other) }
 {
     if state == other {
         return None;
     }
-    for letter in 0..fsm.letters() as u16 {
-        let (next, reply) = fsm.step(state, letter);
-        let (other_next, other_reply) = fsm.step(other, letter);
+    for letter in letters {
+        let (next, reply) = fsm.step(state, *letter);
+        let (other_next, other_reply) = fsm.step(other, *letter);
         if reply != other_reply || blocks[next] != blocks[other_next] {
-            return Some(letter);
+            return Some(*letter);
         }
     }
     None
 }
 
-/// Compares each state with the first of its block, splits the blocks by the first letter on which they differ,
+/// Compares each state with the first of its block, splits the blocks by the first of the letters on which they differ,
 /// and tells whether a block was split.
 ///
 /// The last state comes first: a difference of two states is seen after that of the states to which a letter leads
 /// them, and these mostly come later in a machine whose states are numbered as they are found.
-fn round(alloc: Global, fsm: &Fsm, blocks: &mut Vec<usize>) -> Result<bool, AllocError>
-    requires { AreBlocks fsm.now blocks.old.items }
+pub fn round(
+    alloc: Global,
+    fsm: &Fsm,
+    letters: &[u16],
+    blocks: &mut Vec<usize>,
+) -> Result<bool, AllocError>
+    requires letters { IsWord fsm.now letters.now }
+    requires blocks { AreBlocks fsm.now blocks.old.items }
     ensures blocks { IfOk result (λ _. AreBlocks fsm.now blocks.new.items) }
     ensures result { IfOk result (λ changed.
-        MatchBool changed (sum blocks.old.items < sum blocks.new.items) (AreStable fsm.now blocks.new.items)) }
+        MatchBool changed (sum blocks.old.items < sum blocks.new.items) (AreStableOn fsm.now letters.now blocks.new.items)) }
 {
     let mut changed = false;
     let mut representatives = representatives_of(alloc, blocks.as_slice())?;
     for state in (0..fsm.states()).rev() {
         let representative = representatives[blocks[state]];
-        if let Some(letter) = first_difference(fsm, blocks.as_slice(), state, representative) {
+        if let Some(letter) = first_difference(
+            fsm,
+            letters,
+            blocks.as_slice(),
+            state,
+            representative,
+        ) {
             *blocks = split(alloc, fsm, blocks.as_slice(), letter)?;
             representatives = representatives_of(alloc, blocks.as_slice())?;
             changed = true;

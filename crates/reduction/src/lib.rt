@@ -6,6 +6,7 @@ ghost use Rattle.fsm_core.specs.Answers.{AllReached};
 ghost use Rattle.fsm_core.specs.Reduction.{IsReductionOf};
 
 mod blocks;
+mod columns;
 mod first_splits;
 mod inverse;
 mod quotient;

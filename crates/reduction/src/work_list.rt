@@ -1,4 +1,4 @@
-ghost use Rattle.std.specs.Prelude.{◌≡◌, length, IfOk};
+ghost use Rattle.fsm_core.specs.Machine.{IsWord};
 
 use crate::inverse::Inverse;
 use fsm_core::Fsm;
@@ -21,9 +21,16 @@ pub struct WorkList {
 
 impl WorkList {
     /// All blocks but a largest wait.
-    pub fn new(alloc: Global, fsm: &Fsm, blocks: &[usize]) -> Result<WorkList, AllocError> {
+    pub fn new(
+        alloc: Global,
+        fsm: &Fsm,
+        letters: &[u16],
+        blocks: &[usize],
+    ) -> Result<WorkList, AllocError>
+        requires { IsWord fsm.now letters.now }
+    {
         let mut list = WorkList {
-            inverse: Inverse::new(alloc, fsm)?,
+            inverse: Inverse::new(alloc, fsm, letters)?,
             sizes: Vec::new(alloc),
             waiting: vec![in alloc; false; blocks.len()]?,
             counts: vec![in alloc; 0; blocks.len()]?,
@@ -57,40 +64,40 @@ impl WorkList {
         Ok(())
     }
 
-    /// Whether a letter leads some but not all states of a block to these states.
-    pub fn does_split(&mut self, blocks: &[usize], letter: u16, states: &[u16]) -> bool {
+    /// Whether the letter of a column leads some but not all states of a block to these states.
+    pub fn does_split(&mut self, blocks: &[usize], column: u16, states: &[u16]) -> bool {
         for state in states {
-            self.count_sources(blocks, letter, *state);
+            self.count_sources(blocks, column, *state);
         }
         let mut split = false;
         for state in states {
-            split |= self.compare_sources(blocks, letter, *state);
+            split |= self.compare_sources(blocks, column, *state);
         }
         split
     }
 
     /// Counts the sources of a state in their blocks.
-    fn count_sources(&mut self, blocks: &[usize], letter: u16, state: u16) {
-        let mut at = self.inverse.first(state, letter);
+    fn count_sources(&mut self, blocks: &[usize], column: u16, state: u16) {
+        let mut at = self.inverse.first(state, column);
         for _ in 0..blocks.len() {
             let Some(source) = at else {
                 return;
             };
             count(self.counts.as_mut_slice(), block_of(blocks, source));
-            at = self.inverse.following(source, letter);
+            at = self.inverse.following(source, column);
         }
     }
 
     /// Whether the block of some source of a state has states that were not counted. The counts become 0.
-    fn compare_sources(&mut self, blocks: &[usize], letter: u16, state: u16) -> bool {
+    fn compare_sources(&mut self, blocks: &[usize], column: u16, state: u16) -> bool {
         let mut differ = false;
-        let mut at = self.inverse.first(state, letter);
+        let mut at = self.inverse.first(state, column);
         for _ in 0..blocks.len() {
             let Some(source) = at else {
                 return differ;
             };
             differ |= self.compare(block_of(blocks, source));
-            at = self.inverse.following(source, letter);
+            at = self.inverse.following(source, column);
         }
         differ
     }

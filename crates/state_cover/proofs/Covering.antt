@@ -1,5 +1,6 @@
 -- The words by which a breadth-first search finds its states are a cover.
-use Rattle.std.proofs.Common.{◌≡◌, ℕ, ◌+◌, ◌<◌, ◌≤◌, List, [], ◌∷◌, ◌++◌, length, get_or, zero, suc, refl, ap, sym, ◌∙◌, ◌⊎◌, inl, inr, subst, append_assoc, arith}
+use Rattle.std.proofs.Common.{◌≡◌, ℕ, ◌+◌, ◌<◌, ◌≤◌, List, [], ◌∷◌, ◌++◌, length, get_or, zero, suc, refl, ap, sym}
+use Rattle.std.proofs.Common.{◌∙◌, ◌⊎◌, inl, inr, subst, append_assoc, arith}
 use Rattle.std.specs.List.{All, AllPairs, Contains}
 use Rattle.std.proofs.lemmas.Bool.{cases_eq, cases_order}
 use Rattle.std.proofs.lemmas.List.{append-nil, get_or_default, length_push}
@@ -30,7 +31,8 @@ module _ (m : Machine) (found : List Found) (s : IsSearched m found) (ws : List 
     | inr d ↦
         let z : 0 < k = omega (arith, d) in
         let f = s.earlier k z l in
-        rw (w.longer k z l) (All-push (λ a. a < m.letters) (word ws (from_of k)) (letter_of k) (words_below n (from_of k) (omega (arith, f, h)) (omega (arith, f, l))) (s.letter k z l))
+        rw (w.longer k z l) (All-push (λ a. a < m.letters) (word ws (from_of k)) (letter_of k)
+        (words_below n (from_of k) (omega (arith, f, h)) (omega (arith, f, l))) (s.letter k z l))
   ]
 
   is_word : (k : ℕ) → k < length found → IsWord m (word ws k)
@@ -39,7 +41,8 @@ module _ (m : Machine) (found : List Found) (s : IsSearched m found) (ws : List 
   leads_below : (n k : ℕ) → k < n → k < length found → state_after m 0 (word ws k) ≡ state_at found k
   leads_below zero k h l = absurd (omega (arith, h))
   leads_below (suc n) k h l = elim (cases_eq k 0) as (λ _. state_after m 0 (word ws k) ≡ state_at found k) [
-    | inl e ↦ let e' : k ≡ 0 = e in ap (λ q. state_after m 0 (word ws q)) e' ∙ (ap (λ u. state_after m 0 u) w.root ∙ (sym s.start ∙ ap (state_at found) (sym e')))
+    | inl e ↦ let e' : k ≡ 0 = e in ap (λ q. state_after m 0 (word ws q)) e' ∙ (ap (λ u. state_after m 0 u) w.root ∙
+        (sym s.start ∙ ap (state_at found) (sym e')))
     | inr d ↦
         let z : 0 < k = omega (arith, d) in
         let f = s.earlier k z l in
@@ -60,7 +63,8 @@ module _ (m : Machine) (found : List Found) (s : IsSearched m found) (ws : List 
         | inr d ↦
             let y : 0 < j = omega (arith, d) in
             let lj : j < length found = omega (arith, less, l) in
-            rw (w.longer j y lj, w.longer k z l) (elim (s.ordered j k y less l) as (λ _. IsBefore (word ws (from_of j) ++ letter_of j ∷ []) (word ws (from_of k) ++ letter_of k ∷ [])) [
+            rw (w.longer j y lj, w.longer k z l) (elim (s.ordered j k y less l) as
+            (λ _. IsBefore (word ws (from_of j) ++ letter_of j ∷ []) (word ws (from_of k) ++ letter_of k ∷ [])) [
               | inl b ↦ before_push (word ws (from_of j)) (word ws (from_of k)) (letter_of j) (letter_of k)
                   (ascending_below n (from_of j) (from_of k) (omega (arith, f, h)) b (omega (arith, f, l)))
               | inr b ↦ rw (b.0) (before_letter (word ws (from_of k)) (letter_of j) (letter_of k) b.1)
@@ -100,7 +104,8 @@ module _ (m : Machine) (found : List Found) (s : IsSearched m found) (ws : List 
   along [] i u hi h k = (i, (hi, (refl, rw (append-nil u) k)))
   along (b ∷ v) i u hi h k =
       let p = s.each i b hi (All-head (λ x. x < m.letters) b v h) in
-      let up : IsUpTo (word ws p.0) (u ++ b ∷ []) = up_to_trans (word ws p.0) (word ws i ++ b ∷ []) (u ++ b ∷ []) (up_to i b p.0 hi p.1.inside p.1.first) (up_to_push (word ws i) u b k) in
+      let up : IsUpTo (word ws p.0) (u ++ b ∷ []) = up_to_trans (word ws p.0) (word ws i ++ b ∷ []) (u ++ b ∷ [])
+      (up_to i b p.0 hi p.1.inside p.1.first) (up_to_push (word ws i) u b k) in
       let r = along v p.0 (u ++ b ∷ []) p.1.inside (All-tail (λ x. x < m.letters) b v h) up in
       (r.0, (r.1.0, (r.1.1.0 ∙ ap (λ q. state_after m q v) p.1.leads, rw (append_assoc u (b ∷ []) v) at r.1.1.1)))
 

@@ -24,7 +24,8 @@ named_start found ws e = record {
 pub named_count : (old : List (List ℕ)) (found : List Found) (ws : List (List ℕ)) (ids : List ℕ) (n : ℕ) → AreNamed old found ws ids n → length ids ≡ n
 named_count old found ws ids n c = sym (length-map ids (word ws)) ∙ c.are_words.size
 
-module _ (old : List (List ℕ)) (found : List Found) (ws : List (List ℕ)) (ids : List ℕ) (n : ℕ) (c : AreNamed old found ws ids n) (z : 0 < n) (all : (k : ℕ) → 0 < k → k ≤ n → (found_at found k).from < k)
+module _ (old : List (List ℕ)) (found : List Found) (ws : List (List ℕ)) (ids : List ℕ) (n : ℕ)
+    (c : AreNamed old found ws ids n) (z : 0 < n) (all : (k : ℕ) → 0 < k → k ≤ n → (found_at found k).from < k)
     (from : ℕ) (from_is : from ≡ (found_at found n).from) (a : ℕ) (letter_is : a ≡ (found_at found n).letter)
     (new : List (List ℕ)) (id : ℕ) (enters : Enters ws (extension_of ws (get_or ids from 0) a) new) (keeps : Keeps ws new)
     (there : slice_get new id ≡ Some (extension_of ws (get_or ids from 0) a)) where
@@ -56,7 +57,8 @@ module _ (old : List (List ℕ)) (found : List Found) (ws : List (List ℕ)) (id
     root = old_word 0 z ∙ c.are_words.root;
     longer = λ k y h. elim (cases_lt k n) as (λ _. word (words_at ws ids ++ extension_of ws (get_or ids from 0) a ∷ []) k ≡
         word (words_at ws ids ++ extension_of ws (get_or ids from 0) a ∷ []) (found_at found k).from ++ (found_at found k).letter ∷ []) [
-          | inl less ↦ old_word k less ∙ (c.are_words.longer k y less ∙ ap (λ u. u ++ (found_at found k).letter ∷ []) (sym (old_word (found_at found k).from (omega (arith, all k y (omega (arith, less)), less)))))
+          | inl less ↦ old_word k less ∙ (c.are_words.longer k y less ∙ ap (λ u. u ++ (found_at found k).letter ∷ [])
+              (sym (old_word (found_at found k).from (omega (arith, all k y (omega (arith, less)), less)))))
           | inr more ↦
               let e : k ≡ n = omega (arith, more, h) in
               rw (e) (new_word ∙ (w_is ∙ (ap (λ u. u ++ a ∷ []) (sym (old_word from earlier)) ∙
@@ -95,7 +97,8 @@ module _ (old : List (List ℕ)) (found : List Found) (ws : List (List ℕ)) (id
   pub named_more : AreNamed old found new (ids ++ id ∷ []) (n + 1)
   named_more = record {
     are_words = rw (words) more_words;
-    are_ids = All-push (λ i. i < length new) ids id (ids_kept ws new keeps ids c.are_ids) (slice_get_within new id (extension_of ws (get_or ids from 0) a) there);
+    are_ids = All-push (λ i. i < length new) ids id (ids_kept ws new keeps ids c.are_ids)
+        (slice_get_within new id (extension_of ws (get_or ids from 0) a) there);
     keeps = keeps_on old ws new c.keeps keeps;
     more = elim enters as (λ _. length old ≤ length new) [
       | inl h ↦ omega (arith, ap (λ (v : List (List ℕ)). length v) h.1, c.more)

@@ -6,7 +6,8 @@ pub returns-then-contains : goal.returns-then-contains
 returns-then-contains c =
     let h = c.if-contains.ensures.cases in (
       λ e. absurd (false≢true e),
-      λ d. absurd (found_again c.args.replies.now c.loop-place.place c.index-replies-place.result c.loop-place-test.true c.index-replies-place.is h.0 h.1 h.2 d),
+      λ d. absurd (found_again c.args.replies.now c.loop-place.place c.index-replies-place.result
+          c.loop-place-test.true c.index-replies-place.is h.0 h.1 h.2 d),
     )
 
 pub loop-place-preserved : goal.loop-place-preserved

@@ -11,4 +11,5 @@ enter_all-requires-clause-count c = ap (λ (l : List Found). length l) c.as_slic
 pub returns-clause-cover : goal.returns-clause-cover
 returns-clause-cover c =
     let named = rw (c.as_slice.ensures.value) at c.in_ok-words.ensures.named in
-    cover_all c.args.fsm.now c.in_ok-found.found.items c.in_ok-found.ensures.searched _ named.are_words (c.in_ok-found.ensures.all.1 c.requires.reached) c.requires.reached
+    cover_all c.args.fsm.now c.in_ok-found.found.items c.in_ok-found.ensures.searched _ named.are_words
+    (c.in_ok-found.ensures.all.1 c.requires.reached) c.requires.reached

@@ -19,7 +19,8 @@ loop-place-preserved c =
     let a = (found_at found n).letter in
     let inside : n < length found = omega (arith, c.loop-place-test.true) in
     let size : length ids ≡ n = named_count old found ws ids n v.named in
-    let at : c.index.result.now ≡ get_or ids from 0 = get_or_read ids from c.index.result.now (omega (arith, size, c.requires.searched.earlier n v.some inside)) c.index.ensures 0 in
+    let at : c.index.result.now ≡ get_or ids from 0 = get_or_read ids from c.index.result.now
+    (omega (arith, size, c.requires.searched.earlier n v.some inside)) c.index.ensures 0 in
     let P : ℕ → Type 0 = λ q. Enters ws (extension_of ws q a) new in
     let Q : ℕ → Type 0 = λ q. slice_get new c.in_ok-extend.field-0 ≡ Some (extension_of ws q a) in
     let r = named_more old found ws ids n v.named v.some (λ k z h. c.requires.searched.earlier k z (omega (arith, h, inside))) from refl a refl

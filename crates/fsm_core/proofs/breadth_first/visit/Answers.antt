@@ -10,11 +10,16 @@ loop-letter-preserved c =
     let v = c.loop-letter.invariant in
     let is : c.step-next.result.0 ≡ next m c.index.result.now.state c.loop-letter.letter = ap (λ r. r.0) c.step-next.ensures.row in
     elim c.if-not-flags-next.branch [
-      | then-not-flags-next+in_ok-push w ↦ visit_new m c.step-next.ensures.sound c.args.at c.loop-letter.flags c.loop-letter.found.items c.loop-letter.letter c.index.result.now.state v
-          (omega (arith, c.loop-letter-test.true, c.letters-letter-end.ensures.count)) c.step-next.result.0 is c.if-not-flags-next.flags c.if-not-flags-next.found.items w.if-not-flags-next.true
-          (record { state = c.step-next.result.0; from = c.args.at; letter = c.loop-letter.letter }) refl refl refl w.flags-is (ap (λ v. v.items) w.found-is ∙ w.in_ok-push.ensures.items)
-      | else-not-flags-next w ↦ visit_found m c.step-next.ensures.sound c.args.at c.loop-letter.flags c.loop-letter.found.items c.loop-letter.letter c.index.result.now.state v
-          (omega (arith, c.loop-letter-test.true, c.letters-letter-end.ensures.count)) c.step-next.result.0 is c.if-not-flags-next.flags c.if-not-flags-next.found.items w.if-not-flags-next.false
+      | then-not-flags-next+in_ok-push w ↦ visit_new m c.step-next.ensures.sound c.args.at c.loop-letter.flags
+          c.loop-letter.found.items c.loop-letter.letter c.index.result.now.state v
+          (omega (arith, c.loop-letter-test.true, c.letters-letter-end.ensures.count)) c.step-next.result.0 is
+          c.if-not-flags-next.flags c.if-not-flags-next.found.items w.if-not-flags-next.true
+          (record { state = c.step-next.result.0; from = c.args.at; letter = c.loop-letter.letter }) refl refl refl
+          w.flags-is (ap (λ v. v.items) w.found-is ∙ w.in_ok-push.ensures.items)
+      | else-not-flags-next w ↦ visit_found m c.step-next.ensures.sound c.args.at c.loop-letter.flags
+          c.loop-letter.found.items c.loop-letter.letter c.index.result.now.state v
+          (omega (arith, c.loop-letter-test.true, c.letters-letter-end.ensures.count)) c.step-next.result.0 is
+          c.if-not-flags-next.flags c.if-not-flags-next.found.items w.if-not-flags-next.false
           w.flags-is (ap (λ v. v.items) w.found-is)
     ]
 

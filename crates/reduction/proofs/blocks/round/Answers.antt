@@ -7,7 +7,8 @@ use Rattle.reduction.proofs.blocks.round.Goals.{After-first_difference}
 
 -- the round so far, where the state is the one before
 round_so_far : (c : After-first_difference) →
-    IsRound c.args.fsm.now c.args.blocks.now.items c.loop-state.blocks.items c.loop-state.representatives.items c.loop-state.changed (c.loop-state.state - 1 + 1)
+    IsRound c.args.fsm.now c.args.letters.now c.args.blocks.now.items c.loop-state.blocks.items
+    c.loop-state.representatives.items c.loop-state.changed (c.loop-state.state - 1 + 1)
 round_so_far c =
     let one : c.loop-state.state ≡ c.loop-state.state - 1 + 1 = omega (arith, c.loop-state-test.true) in
     rw (one) at c.loop-state.invariant
@@ -34,17 +35,19 @@ loop-state-preserved-in-Some c =
     let agree : AgreeOn m blocks a finer = rw (c.as_slice-in-Some.ensures.value) at c.in_ok-blocks.ensures.agree in
     let picked : AreRepresentatives finer c.in_ok-representatives-2.representatives.items =
     rw (c.as_slice-in-Some-2.ensures.value) at c.in_ok-representatives-2.ensures in
-    round_split m c.args.blocks.now.items blocks c.loop-state.representatives.items c.loop-state.changed (c.loop-state.state - 1) (round_so_far d) (inside d)
+    round_split m c.args.letters.now c.args.blocks.now.items blocks c.loop-state.representatives.items
+    c.loop-state.changed (c.loop-state.state - 1) (round_so_far d) (inside d)
     c.index-representative.result.now (representative_is d) a differ finer c.in_ok-blocks.ensures.blocks are_finer agree
     c.in_ok-representatives-2.representatives.items picked
 
 pub loop-state-preserved : goal.loop-state-preserved
 loop-state-preserved c =
     let d = (goal.at.loop-state-preserved c).After-first_difference in
-    round_alike c.args.fsm.now c.args.blocks.now.items c.loop-state.blocks.items c.loop-state.representatives.items c.loop-state.changed
+    round_alike c.args.fsm.now c.args.letters.now c.args.blocks.now.items c.loop-state.blocks.items c.loop-state.representatives.items c.loop-state.changed
     (c.loop-state.state - 1) (round_so_far d) (inside d) c.index-representative.result.now (representative_is d)
     (rw (c.as_slice-in-loop-state.ensures.value) at c.in_default.ensures.alike)
 
 pub returns-clause-result : goal.returns-clause-result
-returns-clause-result c = round_result c.args.fsm.now c.args.blocks.now.items c.loop-state.blocks.items c.loop-state.representatives.items c.loop-state.changed
+returns-clause-result c = round_result c.args.fsm.now c.args.letters.now c.args.blocks.now.items
+    c.loop-state.blocks.items c.loop-state.representatives.items c.loop-state.changed
     c.loop-state.state c.loop-state.invariant (omega (arith, c.loop-state-test.false))

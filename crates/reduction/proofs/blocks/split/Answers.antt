@@ -25,4 +25,5 @@ returns-clause-blocks c =
     (omega (arith, c.loop-state-test.false, c.loop-state.auto.state-end, c.states-state-end.ensures.count))
 
 pub returns-clause-agree : goal.returns-clause-agree
-returns-clause-agree c = split_agrees c.args.fsm.now c.args.blocks.now c.args.letter c.loop-state.keys.keys c.loop-state.finer.items c.loop-state.state c.loop-state.invariant
+returns-clause-agree c = split_agrees c.args.fsm.now c.args.blocks.now c.args.letter c.loop-state.keys.keys
+    c.loop-state.finer.items c.loop-state.state c.loop-state.invariant

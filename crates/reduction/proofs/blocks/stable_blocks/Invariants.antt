@@ -2,8 +2,8 @@ use Rattle.std.proofs.Common.{◌-◌, ◌*◌, sum}
 use Rattle.reduction.specs.Blocks.{AreBlocks}
 use Rattle.reduction.proofs.blocks.stable_blocks.Given as goal
 
-abbrev pub invariant-loop-blocks : goal.invariant-loop-blocks
-invariant-loop-blocks l = AreBlocks l.fsm l.blocks.items
+abbrev pub invariant-loop-letters : goal.invariant-loop-letters
+invariant-loop-letters l = AreBlocks l.fsm l.blocks.items
 
-abbrev pub decreases-loop-blocks : goal.decreases-loop-blocks
-decreases-loop-blocks l = l.fsm.states * l.fsm.states - sum l.blocks.items
+abbrev pub decreases-loop-letters : goal.decreases-loop-letters
+decreases-loop-letters l = l.fsm.states * l.fsm.states - sum l.blocks.items
