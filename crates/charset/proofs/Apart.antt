@@ -1,5 +1,6 @@
 -- The shortlex-least word that two states answer differently.
-use Rattle.std.proofs.Common.{◌≡◌, ◌≢◌, ℕ, ◌+◌, ◌-◌, ◌*◌, ◌<◌, ◌≤◌, List, [], ◌∷◌, ◌++◌, length, get_or, drop, refl, ap, sym, ◌∙◌, inl, inr, arith, append_assoc}
+use Rattle.std.proofs.Common.{◌≡◌, ◌≢◌, ℕ, ◌+◌, ◌-◌, ◌*◌, ◌<◌, ◌≤◌, List, [], ◌∷◌, ◌++◌, length, get_or, drop, refl}
+use Rattle.std.proofs.Common.{ap, sym, ◌∙◌, inl, inr, arith, append_assoc}
 use Rattle.std.proofs.lemmas.Bool.{cases_eq, cases_lt, cases_order}
 use Rattle.std.proofs.lemmas.List.{append-nil, get_or-take, get_or-drop, length_push, nil_from_length}
 use Rattle.std.proofs.lemmas.List.Elements.{All-cons, All-nil, All-head, All-tail}
@@ -30,7 +31,8 @@ not_last m names last l s t level hs ht d upto e = elim (cases_lt level last) as
   | inl h ↦ h
   | inr h ↦
       let is : level ≡ last = omega (arith, h, upto) in
-      absurd (d (sym (l.alone s hs) ∙ (ap (λ k. get_or (level_at m.states names k) s 0) (sym is) ∙ (e ∙ (ap (λ k. get_or (level_at m.states names k) t 0) is ∙ l.alone t ht)))))
+      absurd (d (sym (l.alone s hs) ∙ (ap (λ k. get_or (level_at m.states names k) s 0) (sym is) ∙
+      (e ∙ (ap (λ k. get_or (level_at m.states names k) t 0) is ∙ l.alone t ht)))))
 ]
 
 -- what is left of the word from two states that part at a level
@@ -38,7 +40,8 @@ pub record IsRest (m : Machine) (s t level : ℕ) (w : List ℕ) : Type 0 where
   pub size : length w ≡ level
   pub least : 0 < level → IsLeastApart m s t w
 
-module _ (m : Machine) (sound : IsMachine m) (names : List ℕ) (k : ℕ) (g : IsGrouping m.states names (AreAlikeUpTo m k)) (s t : ℕ) (hs : s < m.states) (ht : t < m.states)
+module _ (m : Machine) (sound : IsMachine m) (names : List ℕ) (k : ℕ) (g : IsGrouping m.states names
+    (AreAlikeUpTo m k)) (s t : ℕ) (hs : s < m.states) (ht : t < m.states)
     (p : PartAt m s t (k + 1)) where
   -- some letter tells them apart
   pub some_letter : ¬ ((a : ℕ) → a < m.letters → AreAlikeOn m names a s t)

@@ -75,19 +75,22 @@ module _ (m : Machine) (sound : IsMachine m) (names : List ℕ) (k : ℕ) (g : I
   }
 
   -- where no name changes, states of one group answer every word alike
-  stable : ((s : ℕ) → s < m.states → get_or finer s 0 ≡ get_or names s 0) → (word : List ℕ) (s t : ℕ) → s < m.states → t < m.states → get_or names s 0 ≡ get_or names t 0 →
+  stable : ((s : ℕ) → s < m.states → get_or finer s 0 ≡ get_or names s 0) → (word : List ℕ) (s t : ℕ) → s < m.states →
+      t < m.states → get_or names s 0 ≡ get_or names t 0 →
       IsWord m word → numbers m s word ≡ numbers m t word
   stable same [] s t hs ht e w = refl
   stable same (a ∷ v) s t hs ht e w =
       let ha : a < m.letters = All-head (λ x. x < m.letters) a v w in
       let p = (h.alike s t hs ht (same s hs ∙ (e ∙ sym (same t ht)))).1 a ha in
       let d = p.0 in
-      let rest = stable same v (next m s a) (next m t a) (row_inside m sound s a hs ha).0 (row_inside m sound t a ht ha).0 p.1 (All-tail (λ x. x < m.letters) a v w) in
+      let rest = stable same v (next m s a) (next m t a) (row_inside m sound s a hs ha).0
+      (row_inside m sound t a ht ha).0 p.1 (All-tail (λ x. x < m.letters) a v w) in
       cc
 
   -- in a reduced machine there are more groups, unless each state is alone
   pub groups_rise : IsReduced m → ¬ ((s : ℕ) → s < length names → get_or names s 0 ≡ s) → leaders names m.states < leaders finer m.states
-  groups_rise reduced some = elim (more_or_same m.states names finer (AreAlikeUpTo m k) (AreAlikeUpTo m (k + 1)) g grouping_next (λ s t r. alike_fewer m k s t r)) as
+  groups_rise reduced some = elim (more_or_same m.states names finer (AreAlikeUpTo m k) (AreAlikeUpTo m (k + 1)) g
+      grouping_next (λ s t r. alike_fewer m k s t r)) as
       (λ _. leaders names m.states < leaders finer m.states) [
         | inl more ↦ more
         | inr same ↦ absurd (some (λ s h. elim (cases_eq (get_or names s 0) s) as (λ _. get_or names s 0 ≡ s) [
@@ -96,7 +99,8 @@ module _ (m : Machine) (sound : IsMachine m) (names : List ℕ) (k : ℕ) (g : I
               let hs : s < m.states = omega (arith, h, g.size) in
               let hu : get_or names s 0 < m.states = omega (arith, g.low s hs, hs) in
               let t = reduced (get_or names s 0) s hu hs d in
-              absurd (t.differ (answers_from_numbers m m (get_or names s 0) s t.word refl (stable same t.word (get_or names s 0) s hu hs (g.own s hs) t.is_word)))
+              absurd (t.differ (answers_from_numbers m m (get_or names s 0) s t.word refl
+              (stable same t.word (get_or names s 0) s hu hs (g.own s hs) t.is_word)))
         ]))
       ]
 
@@ -148,7 +152,8 @@ leveling_more m sound reduced all names last l some finer h =
       many = omega (arith, l.many, groups_rise m sound names last g finer h reduced some);
     }
 
-pub leveling_all : (m : Machine) (all names : List ℕ) (last : ℕ) → IsLeveling m all names last → ((s : ℕ) → s < length names → get_or names s 0 ≡ s) → AreLevels m all last
+pub leveling_all : (m : Machine) (all names : List ℕ) (last : ℕ) → IsLeveling m all names last →
+    ((s : ℕ) → s < length names → get_or names s 0 ≡ s) → AreLevels m all last
 leveling_all m all names last l alone =
     let g : IsGrouping m.states names (AreAlikeUpTo m last) = rw (l.here) at (l.level last (omega arith)) in
     record {

@@ -1,5 +1,6 @@
 -- The marks, one by one.
-use Rattle.std.proofs.Common.{◌≡◌, ◌≢◌, ℕ, ℤ, ◌+◌, ◌*◌, ◌<◌, ◌≤◌, List, [], ◌∷◌, ◌++◌, length, get_or, take, slice_get, Some, map, zero, suc, subst, refl, ap, sym, ◌∙◌, ◌⊎◌, inl, inr, All, arith}
+use Rattle.std.proofs.Common.{◌≡◌, ◌≢◌, ℕ, ℤ, ◌+◌, ◌*◌, ◌<◌, ◌≤◌, List, [], ◌∷◌, ◌++◌, length, get_or, take}
+use Rattle.std.proofs.Common.{slice_get, Some, map, zero, suc, subst, refl, ap, sym, ◌∙◌, ◌⊎◌, inl, inr, All, arith}
 use Rattle.std.proofs.lemmas.Bool.{cases_lt}
 use Rattle.std.proofs.lemmas.List.{get_or_append_left, get_or_push, length_push, take-append-le, take_at, length-map, map-append}
 use Rattle.std.proofs.lemmas.Nat.{mul-le}
@@ -36,7 +37,8 @@ pub record IsMarking (m : Machine) (qs names : List ℕ) (found : List (List ℕ
   pub many : length found < leaders names m.states
   pub short : All (λ w. length w < m.states) found
 
-pub marking_first : (m : Machine) (qs names : List ℕ) → length names ≡ m.states → ((s : ℕ) → s < m.states → get_or names s 0 ≡ 0) → 0 < m.states → IsMarking m qs names [] 0
+pub marking_first : (m : Machine) (qs names : List ℕ) → length names ≡ m.states →
+    ((s : ℕ) → s < m.states → get_or names s 0 ≡ 0) → 0 < m.states → IsMarking m qs names [] 0
 marking_first m qs names size z some = record {
   groups = record {
     size = size;
@@ -52,7 +54,8 @@ marking_first m qs names size z some = record {
 }
 
 -- one mark more
-module _ (m : Machine) (sound : IsMachine m) (qs names : List ℕ) (states : AreStates m qs) (found : List (List ℕ)) (from : ℕ) (i : IsMarking m qs names found from)
+module _ (m : Machine) (sound : IsMachine m) (qs names : List ℕ) (states : AreStates m qs) (found : List (List ℕ))
+    (from : ℕ) (i : IsMarking m qs names found from)
     (p q : ℕ) (pair : IsFirstPair names from p q) (w : List ℕ) (apart : IsLeastApart m (get_or qs p 0) (get_or qs q 0) w) where
   inside_q : q < m.states
   inside_q = omega (arith, pair.inside, i.groups.size)
@@ -116,7 +119,8 @@ module _ (m : Machine) (sound : IsMachine m) (qs names : List ℕ) (states : Are
     }
 
     more_leaders : leaders names m.states < leaders finer m.states
-    more_leaders = elim (more_or_same m.states names finer (AgreeOnMarks (answer_at m qs) found) (AgreeOnMarks (answer_at m qs) (found ++ w ∷ [])) i.groups groups_more agree_fewer) as
+    more_leaders = elim (more_or_same m.states names finer (AgreeOnMarks (answer_at m qs) found)
+        (AgreeOnMarks (answer_at m qs) (found ++ w ∷ [])) i.groups groups_more agree_fewer) as
         (λ _. leaders names m.states < leaders finer m.states) [
           | inl more ↦ more
           | inr same ↦ absurd (apart.differ ((g'.alike p q inside_p inside_q (same p inside_p ∙ (pair.same ∙ sym (same q inside_q)))).1))
@@ -179,7 +183,8 @@ pub record IsCharting (m : Machine) (qs : List ℕ) (old ws : List (List ℕ)) (
   pub few : length ws ≤ length old + length ids * m.states
   pub only : AddsPrefixesOf old (words_at ws ids) ws
 
-pub charting_first : (m : Machine) (qs names : List ℕ) (ws : List (List ℕ)) → length names ≡ m.states → ((s : ℕ) → s < m.states → get_or names s 0 ≡ 0) → 0 < m.states →
+pub charting_first : (m : Machine) (qs names : List ℕ) (ws : List (List ℕ)) → length names ≡ m.states →
+    ((s : ℕ) → s < m.states → get_or names s 0 ≡ 0) → 0 < m.states →
     IsCharting m qs ws ws [] names 0
 charting_first m qs names ws size z some = record {
   marking = marking_first m qs names size z some;
@@ -205,7 +210,8 @@ grown_by m sound qs old ws ids names from c =
     let product = mul-le (length ids) m.states 1024 1024 count sound.few_states in
     omega (arith, c.few, product)
 
-module _ (m : Machine) (sound : IsMachine m) (qs names : List ℕ) (states : AreStates m qs) (old ws : List (List ℕ)) (ids : List ℕ) (from : ℕ) (c : IsCharting m qs old ws ids names from)
+module _ (m : Machine) (sound : IsMachine m) (qs names : List ℕ) (states : AreStates m qs) (old ws : List (List ℕ))
+    (ids : List ℕ) (from : ℕ) (c : IsCharting m qs old ws ids names from)
     (p q : ℕ) (pair : IsFirstPair names from p q) (w : List ℕ) (apart : IsLeastApart m (get_or qs p 0) (get_or qs q 0) w) (short : length w < m.states)
     (finer : List ℕ) (g : IsGrouping (length qs) finer (AreAlikeBy m qs names w)) (new : List (List ℕ)) (id : ℕ) (there : slice_get new id ≡ Some w)
     (keeps : Keeps ws new) (e : EntersAfter ws [] w new) where
@@ -232,7 +238,8 @@ state_at m [] i = refl
 state_at m (p ∷ cover) zero = refl
 state_at m (p ∷ cover) (suc i) = state_at m cover i
 
-pub states_are : (m : Machine) (cover : List (List ℕ)) → IsCover m cover → (qs : List ℕ) → qs ≡ map (state_after m 0) cover → All (λ s. s < m.states) qs → AreStates m qs
+pub states_are : (m : Machine) (cover : List (List ℕ)) → IsCover m cover → (qs : List ℕ) →
+    qs ≡ map (state_after m 0) cover → All (λ s. s < m.states) qs → AreStates m qs
 states_are m cover c qs e inside = record {
   size = ap (λ (x : List ℕ). length x) e ∙ (length-map cover (state_after m 0) ∙ c.size);
   inside = inside;

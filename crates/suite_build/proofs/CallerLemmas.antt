@@ -27,7 +27,8 @@ module _ (cover marks : List (List ℕ)) where
       )
 
   -- a pool to which a cover and then marks were added
-  pub prefixes_of_both : (old mid new : List (List ℕ)) → ArePrefixesOf old cover → Keeps old mid → AddsPrefixesOf old cover mid → Keeps mid new → AddsPrefixesOf mid marks new →
+  pub prefixes_of_both : (old mid new : List (List ℕ)) → ArePrefixesOf old cover → Keeps old mid →
+      AddsPrefixesOf old cover mid → Keeps mid new → AddsPrefixesOf mid marks new →
       ArePrefixesOf new (cover ++ marks)
   prefixes_of_both old mid new front keeps added keeps' added' i h = elim (cases_lt i (length mid)) as (λ _. IsPrefixOfOne (cover ++ marks) (word new i)) [
     | inr more ↦ in_marks (word new i) (added' i more h)

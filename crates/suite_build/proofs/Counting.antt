@@ -39,7 +39,8 @@ too_many n c m j hn hc hm hj h =
     omega (arith, rise, low, h)
 
 -- the products of the last line fit
-pub fits_four : (n w a b : ℕ) → n ≤ 1024 → w ≤ 20000000 → a ≤ 1024 → b ≤ 4096 → (n * w ≤ 20480000000) × ((n * w * a ≤ 20971520000000) × (n * w * a * b ≤ 85899345920000000))
+pub fits_four : (n w a b : ℕ) → n ≤ 1024 → w ≤ 20000000 → a ≤ 1024 → b ≤ 4096 → (n * w ≤ 20480000000) ×
+    ((n * w * a ≤ 20971520000000) × (n * w * a * b ≤ 85899345920000000))
 fits_four n w a b hn hw ha hb =
     let x : n * w ≤ 20480000000 = mul-le n w 1024 20000000 hn hw in
     let y : n * w * a ≤ 20971520000000 = mul-le (n * w) a 20480000000 1024 x ha in

@@ -1,5 +1,7 @@
 -- Words that enter a pool, set by set.
-use Rattle.std.proofs.Common.{◌≡◌, ℕ, ◌+◌, ◌-◌, ◌*◌, ◌<◌, ◌≤◌, List, [], ◌∷◌, ◌++◌, length, get_or, take, drop, map, slice_get, Some, zero, suc, sum_by, Contains, refl, ap, sym, ◌∙◌, ◌⊎◌, inl, inr, All, subst, append_assoc, arith}
+use Rattle.std.proofs.Common.{◌≡◌, ℕ, ◌+◌, ◌-◌, ◌*◌, ◌<◌, ◌≤◌, List, [], ◌∷◌, ◌++◌, length, get_or, take, drop, map}
+use Rattle.std.proofs.Common.{slice_get, Some, zero, suc, sum_by, Contains, refl, ap, sym, ◌∙◌, ◌⊎◌, inl, inr, All}
+use Rattle.std.proofs.Common.{subst, append_assoc, arith}
 use Rattle.std.proofs.lemmas.Bool.{cases_eq, cases_lt}
 use Rattle.std.proofs.lemmas.Nat.{mul-le}
 use Rattle.std.proofs.lemmas.List.{append-nil, get_or_append_left, get_or_push, length_push, take-append-drop, drop_more, nil_from_length}
@@ -74,7 +76,8 @@ entered_first old mid new x Q enters keeps f w q prefix = elim enters as (λ _. 
 
 -- one more mark after the word u
 pub marks_more : (old ws new : List (List ℕ)) (u : List ℕ) (marks : List (List ℕ)) (n : ℕ) → AreEntered old (IsMarkAfter u marks n) ws → Keeps ws new →
-    (mark : List ℕ) → mark ≡ word marks n → EntersAfter ws u mark new → (i : ℕ) → slice_get new i ≡ Some (u ++ mark) → AreEntered old (IsMarkAfter u marks (n + 1)) new
+    (mark : List ℕ) → mark ≡ word marks n → EntersAfter ws u mark new → (i : ℕ) → slice_get new i ≡ Some (u ++ mark) →
+    AreEntered old (IsMarkAfter u marks (n + 1)) new
 marks_more old ws new u marks n e keeps mark is f i there =
     entered_both old ws new (IsMarkAfter u marks n) (λ w. w ≡ u ++ mark) (IsMarkAfter u marks (n + 1)) e keeps
     (record {
@@ -87,7 +90,8 @@ marks_more old ws new u marks n e keeps mark is f i there =
               refl,
               (
                 drop p.0 mark,
-                ap (λ t. u ++ t) (sym (take-append-drop p.0 mark)) ∙ (sym (append_assoc u (take p.0 mark) (drop p.0 mark)) ∙ ap (λ t. t ++ drop p.0 mark) (sym p.1.1)),
+                ap (λ t. u ++ t) (sym (take-append-drop p.0 mark)) ∙ (sym (append_assoc u (take p.0 mark)
+                    (drop p.0 mark)) ∙ ap (λ t. t ++ drop p.0 mark) (sym p.1.1)),
               ),
             ),
           );
@@ -104,7 +108,8 @@ abbrev pub IsSoFar : List ℕ → ℕ → List (List ℕ) → ℕ → ℕ → Li
 IsSoFar u c marks d a w = IsMarkAfter u marks (length marks) w ⊎ ((b : ℕ) × ((b < a) × IsProductAfter (u ++ b ∷ []) c marks d w))
 
 -- a product after u and a letter is one after u with a letter more
-product_longer : (u : List ℕ) (c : ℕ) (marks : List (List ℕ)) (d b : ℕ) (w : List ℕ) → b < c → IsProductAfter (u ++ b ∷ []) c marks d w → IsProductAfter u c marks (d + 1) w
+product_longer : (u : List ℕ) (c : ℕ) (marks : List (List ℕ)) (d b : ℕ) (w : List ℕ) → b < c →
+    IsProductAfter (u ++ b ∷ []) c marks d w → IsProductAfter u c marks (d + 1) w
 product_longer u c marks d b w hb p = record {
   z = b ∷ p.z;
   k = p.k;
@@ -124,7 +129,8 @@ mark_product u c marks d w h = record {
   is = h.1.1;
 }
 
-product_cases : (u : List ℕ) (c : ℕ) (marks : List (List ℕ)) (d : ℕ) (w : List ℕ) (z : List ℕ) (k : ℕ) → All (λ a. a < c) z → length z ≤ d + 1 → k < length marks →
+product_cases : (u : List ℕ) (c : ℕ) (marks : List (List ℕ)) (d : ℕ) (w : List ℕ) (z : List ℕ) (k : ℕ) →
+    All (λ a. a < c) z → length z ≤ d + 1 → k < length marks →
     w ≡ u ++ (z ++ word marks k) → IsSoFar u c marks d c w
 product_cases u c marks d w [] k letters short mark is = inl (k, (mark, is))
 product_cases u c marks d w (b ∷ z) k letters short mark is = inr (
@@ -184,10 +190,13 @@ pub so_far_more : (old ws mid new : List (List ℕ)) (u : List ℕ) (c : ℕ) (m
     AreEntered old (IsSoFar u c marks d (a + 1)) new
 so_far_more old ws mid new u c marks d a e enters keeps keeps' some f =
     let first : List ℕ = u ++ a ∷ [] in
-    let product : IsProductAfter (u ++ a ∷ []) c marks d ((u ++ a ∷ []) ++ word marks 0) = mark_product (u ++ a ∷ []) c marks d ((u ++ a ∷ []) ++ word marks 0) (0, (some, refl)) in
+    let product : IsProductAfter (u ++ a ∷ []) c marks d ((u ++ a ∷ []) ++ word marks 0) =
+    mark_product (u ++ a ∷ []) c marks d ((u ++ a ∷ []) ++ word marks 0) (0, (some, refl)) in
     let g : AreEntered ws (IsProductAfter (u ++ a ∷ []) c marks d) new =
-    entered_first ws mid new (u ++ a ∷ []) (IsProductAfter (u ++ a ∷ []) c marks d) enters keeps' f ((u ++ a ∷ []) ++ word marks 0) product (word marks 0, refl) in
-    entered_both old ws new (IsSoFar u c marks d a) (IsProductAfter (u ++ a ∷ []) c marks d) (IsSoFar u c marks d (a + 1)) e (keeps_on ws mid new keeps keeps') g
+    entered_first ws mid new (u ++ a ∷ []) (IsProductAfter (u ++ a ∷ []) c marks d) enters keeps' f
+    ((u ++ a ∷ []) ++ word marks 0) product (word marks 0, refl) in
+    entered_both old ws new (IsSoFar u c marks d a) (IsProductAfter (u ++ a ∷ []) c marks d)
+    (IsSoFar u c marks d (a + 1)) e (keeps_on ws mid new keeps keeps') g
     (λ w h. elim h as (λ _. IsSoFar u c marks d (a + 1) w) [ inl m ↦ inl m | inr p ↦ inr (p.0, (omega (arith, p.1.0), p.1.1)) ])
     (λ w h. inr (a, (omega arith, h)))
     (λ w h. elim h as (λ _. IsSoFar u c marks d a w ⊎ IsProductAfter (u ++ a ∷ []) c marks d w) [
@@ -258,7 +267,8 @@ module _ (old ws : List (List ℕ)) (at c : ℕ) (marks : List (List ℕ)) (d a 
   pub room_for_letter : length ws < 4294967295
   room_for_letter = omega (arith, f.few, room, product_fits)
 
-  module _ (mid : List (List ℕ)) (next : ℕ) (enters : Enters ws (extension_of ws at a) mid) (keeps : Keeps ws mid) (there : slice_get mid next ≡ Some (extension_of ws at a)) where
+  module _ (mid : List (List ℕ)) (next : ℕ) (enters : Enters ws (extension_of ws at a) mid) (keeps : Keeps ws mid)
+      (there : slice_get mid next ≡ Some (extension_of ws at a)) where
     pub next_is : word mid next ≡ word old at ++ a ∷ []
     next_is = get_or_from_slice_get mid next (extension_of ws at a) [] there ∙ ap (λ u. u ++ a ∷ []) (word_kept old ws f.keeps at hat)
 
@@ -281,7 +291,8 @@ filling_all old ws at c marks d f =
     let one : d + 1 ≡ suc d = omega arith in
     (omega (arith, f.few), rw (one) at (products_all old ws (word old at) c marks d f.entered))
 
-pub room_for_marks : (old : ℕ) (marks : List (List ℕ)) (c d : ℕ) → old + (letters_of marks + 1) * words_upto c d ≤ 4294967295 → old + letters_of marks < 4294967295
+pub room_for_marks : (old : ℕ) (marks : List (List ℕ)) (c d : ℕ) → old + (letters_of marks + 1) * words_upto c d ≤
+    4294967295 → old + letters_of marks < 4294967295
 room_for_marks old marks c d room =
     let x = mul-le (letters_of marks + 1) 1 (letters_of marks + 1) (words_upto c d) (omega arith) (upto_some c d) in
     omega (arith, x, room)

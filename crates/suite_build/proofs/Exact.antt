@@ -1,5 +1,7 @@
 -- The products of a whole cover, and that the ends of the pool are the tests.
-use Rattle.std.proofs.Common.{◌≡◌, ℕ, ◌+◌, ◌-◌, ◌*◌, ◌<◌, ◌≤◌, List, [], ◌∷◌, ◌++◌, length, get_or, take, drop, map, slice_get, Some, zero, suc, Contains, refl, ap, sym, ◌∙◌, ◌⊎◌, inl, inr, All, AllPairs, subst, append_assoc, arith}
+use Rattle.std.proofs.Common.{◌≡◌, ℕ, ◌+◌, ◌-◌, ◌*◌, ◌<◌, ◌≤◌, List, [], ◌∷◌, ◌++◌, length, get_or, take, drop, map}
+use Rattle.std.proofs.Common.{slice_get, Some, zero, suc, Contains, refl, ap, sym, ◌∙◌, ◌⊎◌, inl, inr, All, AllPairs}
+use Rattle.std.proofs.Common.{subst, append_assoc, arith}
 use Rattle.std.proofs.lemmas.Bool.{cases_eq, cases_lt}
 use Rattle.std.proofs.lemmas.Nat.{mul-le}
 use Rattle.std.proofs.lemmas.List.{append-nil, get_or_append_left, get_or-append_right, get_or_default, length-append, length-map}
@@ -40,7 +42,8 @@ covering_room old ws ids c marks d n v h room =
     let x = mul-le (n + 1) ((letters_of marks + 1) * words_upto c d) (length ids) ((letters_of marks + 1) * words_upto c d) (omega (arith, h)) (omega arith) in
     omega (arith, x, v.few, room)
 
-pub covering_more : (old ws new : List (List ℕ)) (ids : List ℕ) (c : ℕ) (marks : List (List ℕ)) (d n : ℕ) → IsCovering old ws ids c marks d n → AreIds old ids → n < length ids →
+pub covering_more : (old ws new : List (List ℕ)) (ids : List ℕ) (c : ℕ) (marks : List (List ℕ)) (d n : ℕ) →
+    IsCovering old ws ids c marks d n → AreIds old ids → n < length ids →
     (id : ℕ) → id ≡ get_or ids n 0 → Keeps ws new → length new + 1 ≤ length ws + (letters_of marks + 1) * words_upto c d →
     AreEntered ws (IsProductAfter (word ws id) c marks d) new → IsCovering old new ids c marks d (n + 1)
 covering_more old ws new ids c marks d n v are h id is keeps few e =
@@ -89,10 +92,23 @@ module _ (old new : List (List ℕ)) (c : ℕ) (cover marks : List (List ℕ)) (
         let same : word new i ≡ word old i = word_kept old new keeps i before in
         elim (cases_lt f.0 (length cover)) as (λ _. (w : List ℕ) × (IsProduct c cover marks d w × IsPrefix (word new i) w)) [
           | inl low ↦
-              let is : word cover f.0 ≡ word new i ++ f.1.1.0 = sym (get_or_append_left cover marks [] f.0 low) ∙ (f.1.1.1 ∙ ap (λ u. u ++ f.1.1.0) (sym same)) in (
+              let is : word cover f.0 ≡ word new i ++ f.1.1.0 = sym (get_or_append_left cover marks [] f.0 low) ∙
+              (f.1.1.1 ∙ ap (λ u. u ++ f.1.1.0) (sym same)) in (
                 word cover f.0 ++ word marks 0,
                 (
-                  record { i = f.0; in_cover = low; after = record { z = []; k = 0; letters = All-nil (λ a. a < c); short = omega arith; mark = some; is = refl } },
+                  record {
+                    i = f.0;
+                    in_cover = low;
+                    after = record {
+                      z = [];
+                      k = 0;
+                      letters =
+                          All-nil (λ a. a < c);
+                      short = omega arith;
+                      mark = some;
+                      is = refl;
+                    };
+                  },
                   (f.1.1.0 ++ word marks 0, ap (λ u. u ++ word marks 0) is ∙ append_assoc (word new i) f.1.1.0 (word marks 0)),
                 ),
               )
@@ -104,7 +120,19 @@ module _ (old new : List (List ℕ)) (c : ℕ) (cover marks : List (List ℕ)) (
               let root : word cover empty.0 ≡ [] = empty.2 in (
                 word cover empty.0 ++ word marks (f.0 - length cover),
                 (
-                  record { i = empty.0; in_cover = empty.1; after = record { z = []; k = f.0 - length cover; letters = All-nil (λ a. a < c); short = omega arith; mark = inside; is = refl } },
+                  record {
+                    i = empty.0;
+                    in_cover = empty.1;
+                    after = record {
+                      z = [];
+                      k = f.0 - length cover;
+                      letters =
+                          All-nil (λ a. a < c);
+                      short = omega arith;
+                      mark = inside;
+                      is = refl;
+                    };
+                  },
                   (f.1.1.0, ap (λ u. u ++ word marks (f.0 - length cover)) root ∙ is),
                 ),
               )
@@ -163,7 +191,8 @@ module _ (old new : List (List ℕ)) (c : ℕ) (cover marks : List (List ℕ)) (
         ascending = λ i j x less hj.
             let hj' : j < length ids = omega (arith, hj, size) in
             let hi' : i < length ids = omega (arith, less, hj') in
-            let a : get_or (words_at new ids) i x ≡ word new (get_or ids i 0) = get_or_default (words_at new ids) i x [] (omega (arith, less, hj)) ∙ word_at new ids i hi' in
+            let a : get_or (words_at new ids) i x ≡ word new (get_or ids i 0) = get_or_default (words_at new ids) i x
+            [] (omega (arith, less, hj)) ∙ word_at new ids i hi' in
             let b : get_or (words_at new ids) j x ≡ word new (get_or ids j 0) = get_or_default (words_at new ids) j x [] hj ∙ word_at new ids j hj' in
             rw (a, b) (ends.ascending i j 0 less hj');
       }

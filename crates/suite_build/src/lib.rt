@@ -12,7 +12,7 @@ ghost use Rattle.suite_build.specs.Refusals.{AreSteps, IsRefusal, IsRefusalOrMem
 
 mod products;
 
-use charset::Marks;
+use charset::{Marks, marks_are_few_and_short};
 use fsm_core::Fsm;
 use products::{enter_all, letters_at};
 use state_cover::CoverWords;
@@ -122,8 +122,6 @@ pub fn build(
     requires cover { IsCover fsm.now (words_at pool.old.words cover) }
     requires mark_ids { AreIds pool.old.words marks }
     requires marks { AreMarks fsm.now (words_at pool.old.words cover) (words_at pool.old.words marks) }
-    requires count { length marks ≤ max 1 (fsm.now.states - 1) }
-    requires short { All (λ w. length w ≤ fsm.now.states - 1) (words_at pool.old.words marks) }
     requires few { length pool.old.words ≤ 2000000000 }
     requires front { ArePrefixesOf pool.old.words (words_at pool.old.words cover ++ words_at pool.old.words marks) }
     ensures refusal { IfErr result (IsRefusalOrMemory fsm.now.states fsm.now.letters m) }
@@ -142,6 +140,7 @@ pub fn build(
     ensures prefixes { IfOk result (λ r. ArePrefixesOf pool.new.words (words_at pool.new.words r.tests.items)) }
     ensures keeps { Keeps pool.old.words pool.new.words }
 {
+    marks_are_few_and_short();
     let steps = steps_of(fsm.states(), fsm.letters(), m)?;
     let depth = m - fsm.states() + 1;
     match tests_of(alloc, fsm.letters(), &cover, &marks, depth, steps, pool) {

@@ -16,14 +16,16 @@ loop-first-init c =
     let size : length c.in_ok-names.names.items ≡ m.states = ap (λ (x : List ℕ). length x) e ∙ (length-replicate n 0 ∙ c.states.ensures.count) in
     let zeros : (s : ℕ) → s < m.states → get_or c.in_ok-names.names.items s 0 ≡ 0 =
     λ s h. ap (λ (x : List ℕ). get_or x s 0) e ∙ get_or-replicate n s 0 0 (omega (arith, h, c.states.ensures.count)) in
-    rw (c.new-words.ensures.items) (charting_first m c.args.states.now c.in_ok-names.names.items c.args.pool.now.words size zeros c.states.ensures.sound.some_states)
+    rw (c.new-words.ensures.items) (charting_first m c.args.states.now c.in_ok-names.names.items c.args.pool.now.words
+    size zeros c.states.ensures.sound.some_states)
 
 pub enter-requires-clause-few : goal.enter-requires-clause-few
 enter-requires-clause-few c =
     let m = c.args.fsm.now in
     let i = c.loop-first.invariant in
     rw (c.as_slice-in-Some-3.ensures.value)
-    (room_left m c.states.ensures.sound c.args.states.now c.args.pool.now.words c.loop-first.pool.words c.loop-first.words.items c.loop-first.names.items c.loop-first.from i
+    (room_left m c.states.ensures.sound c.args.states.now c.args.pool.now.words c.loop-first.pool.words
+    c.loop-first.words.items c.loop-first.names.items c.loop-first.from i
     c.requires.few (length c.in_ok-word.word.items) c.in_ok-word.ensures.short)
 
 pub returns-in_err-enter-clause-keeps : goal.returns-in_err-enter-clause-keeps
@@ -53,9 +55,11 @@ loop-first-preserved c =
     let g : IsGrouping (length c.args.states.now) c.in_ok-names-2.names.items
     (AreAlikeBy c.args.fsm.now c.args.states.now c.loop-first.names.items c.in_ok-word.word.items) =
     rw (c.as_slice-in-Some.ensures.value, c.as_slice-in-Some-2.ensures.value) at c.in_ok-names-2.ensures in
-    let empty : word c.loop-first.pool.words c.root-root.result ≡ [] = get_or_from_slice_get c.loop-first.pool.words c.root-root.result [] [] c.root-root.ensures.empty in
+    let empty : word c.loop-first.pool.words c.root-root.result ≡ [] = get_or_from_slice_get c.loop-first.pool.words
+    c.root-root.result [] [] c.root-root.ensures.empty in
     rw (c.in_ok-push.ensures.items)
-    (charting_more m c.states.ensures.sound qs names c.requires.states c.args.pool.now.words c.loop-first.pool.words c.loop-first.words.items c.loop-first.from i p q pair w apart
+    (charting_more m c.states.ensures.sound qs names c.requires.states c.args.pool.now.words c.loop-first.pool.words
+    c.loop-first.words.items c.loop-first.from i p q pair w apart
     c.in_ok-word.ensures.short c.in_ok-names-2.names.items g c.enter.new.self.words c.in_ok-enter.field-0
     (rw (empty, c.as_slice-in-Some-3.ensures.value) at c.in_ok-enter.ensures.word) c.in_ok-enter.ensures.keeps
     (rw (empty, c.as_slice-in-Some-3.ensures.value) at c.in_ok-enter.ensures.enters))
@@ -67,9 +71,16 @@ returns-clause-marks c =
 
 pub returns-clause-grown : goal.returns-clause-grown
 returns-clause-grown c =
-    grown_by c.args.fsm.now c.states.ensures.sound c.args.states.now c.args.pool.now.words c.loop-first.pool.words c.loop-first.words.items c.loop-first.names.items c.loop-first.from
+    grown_by c.args.fsm.now c.states.ensures.sound c.args.states.now c.args.pool.now.words c.loop-first.pool.words
+    c.loop-first.words.items c.loop-first.names.items c.loop-first.from
     c.loop-first.invariant
 
 pub returns-clause-count : goal.returns-clause-count
 returns-clause-count c =
-    omega (arith, c.loop-first.invariant.marking.many, length-map c.loop-first.words.items (word c.loop-first.pool.words), leaders_upto c.loop-first.names.items c.args.fsm.now.states)
+    omega (
+      arith,
+      c.loop-first.invariant.marking.many,
+      length-map c.loop-first.words.items
+          (word c.loop-first.pool.words),
+      leaders_upto c.loop-first.names.items c.args.fsm.now.states,
+    )

@@ -17,21 +17,33 @@ state_of-requires-clause-word c =
     let ids : List ℕ = c.args.ids.now in
     let h : c.loop-id.id-index < length ids = omega (arith, c.loop-id-test.true) in
     let inside : c.loop-id.id-index < length (words_at ws ids) = omega (arith, h, length-map ids (word ws)) in
-    rw (item_is (goal.at.state_of-requires-clause-word c).After-id-item) (rw (word_at ws ids c.loop-id.id-index h) at (All-get_or (IsWord c.args.fsm.now) (words_at ws ids) c.loop-id.id-index [] inside c.requires.words))
+    rw (item_is (goal.at.state_of-requires-clause-word c).After-id-item) (rw (word_at ws ids c.loop-id.id-index h) at
+    (All-get_or (IsWord c.args.fsm.now) (words_at ws ids) c.loop-id.id-index [] inside c.requires.words))
 
 -- one state more
-states_more : (step : List ℕ → ℕ) (ws : List (List ℕ)) (ids : List ℕ) (at : ℕ) (states : List ℕ) → at < length ids → states ≡ map step (words_at ws (take at ids)) →
+states_more : (step : List ℕ → ℕ) (ws : List (List ℕ)) (ids : List ℕ) (at : ℕ) (states : List ℕ) → at < length ids →
+    states ≡ map step (words_at ws (take at ids)) →
     (id s : ℕ) → id ≡ get_or ids at 0 → s ≡ step (word ws id) → states ++ s ∷ [] ≡ map step (words_at ws (take (at + 1) ids))
 states_more step ws ids at states h e id s is s_is =
-    rw (take_more ids at 0 h, map-append (word ws) (take at ids) (get_or ids at 0 ∷ []), map-append step (words_at ws (take at ids)) (word ws (get_or ids at 0) ∷ []), ← e, ← is, ← s_is) refl
+    rw (
+      take_more ids at 0 h,
+      map-append (word ws) (take at ids) (get_or ids at 0 ∷ []),
+      map-append step
+          (words_at ws (take at ids)) (word ws (get_or ids at 0) ∷ []),
+      ← e,
+      ← is,
+      ← s_is,
+    ) refl
 
 pub loop-id-preserved : goal.loop-id-preserved
 loop-id-preserved c =
     let d = (goal.at.loop-id-preserved c).After-id-item in
     record {
-      states = c.in_ok-push.ensures.items ∙ states_more (state_after c.args.fsm.now 0) c.args.pool.now.words c.args.ids.now c.loop-id.id-index c.loop-id.states.items
+      states = c.in_ok-push.ensures.items ∙ states_more (state_after c.args.fsm.now 0) c.args.pool.now.words
+          c.args.ids.now c.loop-id.id-index c.loop-id.states.items
           (omega (arith, c.loop-id-test.true)) c.loop-id.invariant.states c.id-item.result c.in_ok-state_of.field-0 (item_is d) c.in_ok-state_of.ensures.state;
-      inside = rw (c.in_ok-push.ensures.items) (All-push (λ s. s < c.args.fsm.now.states) c.loop-id.states.items c.in_ok-state_of.field-0 c.loop-id.invariant.inside c.in_ok-state_of.ensures.inside);
+      inside = rw (c.in_ok-push.ensures.items) (All-push (λ s. s < c.args.fsm.now.states) c.loop-id.states.items
+          c.in_ok-state_of.field-0 c.loop-id.invariant.inside c.in_ok-state_of.ensures.inside);
     }
 
 pub returns-clause-states : goal.returns-clause-states

@@ -12,5 +12,6 @@ loop-place-preserved c =
     let leads : IsLeader c.loop-place.finer.items (AreAlikeBy m qs old w) c.loop-place.place c.leader_by-leader.result =
     rw (c.as_slice.ensures.value) at c.leader_by-leader.ensures in
     rw (c.in_ok-push.ensures.items)
-    (grouping_more (AreAlikeBy m qs old w) (by_itself m qs old w) (by_flip m qs old w) (by_chain m qs old w) c.loop-place.finer.items c.loop-place.place c.loop-place.invariant
+    (grouping_more (AreAlikeBy m qs old w) (by_itself m qs old w) (by_flip m qs old w) (by_chain m qs old w)
+    c.loop-place.finer.items c.loop-place.place c.loop-place.invariant
     c.leader_by-leader.result leads)

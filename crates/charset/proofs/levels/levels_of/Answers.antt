@@ -30,4 +30,5 @@ loop-alloc-smaller c = omega (arith, c.loop-alloc.invariant.many, leaders_upto c
 
 pub returns : goal.returns
 returns c =
-    leveling_all c.args.fsm.now c.loop-alloc.all.items c.loop-alloc.names.items c.loop-alloc.last c.loop-alloc.invariant (rw (c.as_slice-in-loop-alloc.ensures.value) at c.loop-alloc-test.ensures)
+    leveling_all c.args.fsm.now c.loop-alloc.all.items c.loop-alloc.names.items c.loop-alloc.last
+    c.loop-alloc.invariant (rw (c.as_slice-in-loop-alloc.ensures.value) at c.loop-alloc-test.ensures)

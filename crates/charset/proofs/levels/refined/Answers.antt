@@ -10,5 +10,6 @@ loop-state-preserved c =
     let leads : IsLeader c.loop-state.finer.items (AreAlikeOnAll m old) c.loop-state.state c.leader_of-leader.result =
     rw (c.as_slice.ensures.value) at c.leader_of-leader.ensures in
     rw (c.in_ok-push.ensures.items)
-    (grouping_more (AreAlikeOnAll m old) (all_itself m old) (all_flip m old) (all_chain m old) c.loop-state.finer.items c.loop-state.state c.loop-state.invariant
+    (grouping_more (AreAlikeOnAll m old) (all_itself m old) (all_flip m old) (all_chain m old)
+    c.loop-state.finer.items c.loop-state.state c.loop-state.invariant
     c.leader_of-leader.result leads)
