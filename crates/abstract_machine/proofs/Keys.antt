@@ -1,5 +1,6 @@
 -- Numbers of keys in a list that has each key once.
-use Rattle.std.proofs.Common.{◌≡◌, ℕ, ◌<◌, Bool, true, false, if◌then◌else◌, List, [], ◌∷◌, ◌++◌, length, get_or, slice_get, Some, refl, ap, sym, ◌∙◌, ◌⊎◌, inl, inr, All, arith}
+use Rattle.std.proofs.Common.{◌≡◌, ℕ, ◌<◌, Bool, true, false, if◌then◌else◌, List, [], ◌∷◌, ◌++◌, length, get_or}
+use Rattle.std.proofs.Common.{slice_get, Some, refl, ap, sym, ◌∙◌, ◌⊎◌, inl, inr, All, arith}
 use Rattle.std.specs.List.{list_any, position_or_len}
 use Rattle.std.proofs.lemmas.Bool.{both_ways, cases_Bool, cond-true, cond-false, false_from_ne_true}
 use Rattle.std.proofs.lemmas.List.{get_or_append_left, get_or_push, length_push}
@@ -32,7 +33,8 @@ module _ {K : Type 0} where
   -- the first key of all
   pub first_key : (old : List K) (key : K) (new : List K) (n : ℕ) → old ≡ [] → IsNumbered old key new n → new ≡ key ∷ []
   first_key old key new n none h = elim h.grown as (λ _. new ≡ key ∷ []) [
-    | inl same ↦ absurd (let inside = slice_get_within new n key h.there in let empty : new ≡ [] = same ∙ none in let size : length new ≡ 0 = ap length empty in omega (arith, inside, size))
+    | inl same ↦ absurd (let inside = slice_get_within new n key h.there in let empty : new ≡ [] = same ∙ none in
+        let size : length new ≡ 0 = ap length empty in omega (arith, inside, size))
     | inr more ↦ more.0 ∙ ap (λ l. l ++ key ∷ []) none
   ]
 

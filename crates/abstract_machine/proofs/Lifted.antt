@@ -1,13 +1,14 @@
 -- What a reduction of an explored machine says of the plan, over the witnesses and over the box.
-use Rattle.std.proofs.Common.{◌≡◌, ℕ, ◌+◌, ◌<◌, ◌≤◌, ◌↔◌, ℤ, List, [], ◌∷◌, ◌++◌, length, map, get_or, Contains, refl, ap, sym, subst, ◌∙◌, All, AllPairs, arith}
+use Rattle.std.proofs.Common.{◌≡◌, ℕ, ◌<◌, ◌↔◌, List, [], ◌∷◌, length, refl}
+use Rattle.std.proofs.Common.{ap, sym, subst, ◌∙◌, All}
 use Rattle.std.proofs.lemmas.List.{length-map}
 use Rattle.std.proofs.lemmas.List.Elements.{All-get_or, All-head, All-tail, All-weaker}
-use Rattle.fsm_core.specs.Machine.{IsMachine, IsWord, Machine, state_after}
+use Rattle.fsm_core.specs.Machine.{IsWord, Machine, state_after}
 use Rattle.fsm_core.specs.Answers.{answer_from}
 use Rattle.input_classes.specs.declared.class.Class.{Class}
-use Rattle.input_classes.specs.Partition.{Covers, IsInClass, Partition, in_witnesses, witness_of, witnesses}
+use Rattle.input_classes.specs.Partition.{Covers, Partition, in_witnesses, witness_of, witnesses}
 use Rattle.input_classes.specs.VectorSet.{IsIn, IsWordOf, Members, VectorSet, Word}
-use Rattle.input_classes.proofs.CallerLemmas.{members-within, word-member, words-within, witnessed}
+use Rattle.input_classes.proofs.CallerLemmas.{word-member, words-within, witnessed}
 use Rattle.subject.specs.Alike.{HasRank, LeadAlike, MembersActAlike}
 use Rattle.subject.specs.Meaning.{IsReachedOn, LeadsTo, Meaning, after, state_after as plan_after}
 use Rattle.subject.specs.Suite.{in_vectors}
@@ -66,11 +67,13 @@ module _ {S : Type 0} (r : Partition) (m : Meaning S) (g : Machine) (a : IsAbstr
     pub cover_is : (cover : List (List ℕ)) → IsCoverBy g.letters Alike cover → IsCoverBy (length r.classes) Like cover
     cover_is cover h = subst (λ n. IsCoverBy n Like cover) (letters ∙ count) (same_cover g.letters Alike Like one_kind cover h)
 
-  pub marks_are : (cover marks : List (List ℕ)) → All (IsWord g) cover → AreMarksBy (λ i w. answer_from g (state_after g 0 (word cover i)) w) (length cover) g.letters marks →
+  pub marks_are : (cover marks : List (List ℕ)) → All (IsWord g) cover → AreMarksBy
+      (λ i w. answer_from g (state_after g 0 (word cover i)) w) (length cover) g.letters marks →
       AreMarksBy (λ i w. after m (in_vectors (witnesses r) (word cover i)) (in_vectors (witnesses r) w)) (length cover) (length r.classes) marks
   marks_are cover marks words h =
       subst (λ n. AreMarksBy (λ i w. after m (in_vectors (witnesses r) (word cover i)) (in_vectors (witnesses r) w)) (length cover) n marks) (letters ∙ count)
-      (same_marks (length cover) g.letters (λ i w. answer_from g (state_after g 0 (word cover i)) w) (λ i w. after m (in_vectors (witnesses r) (word cover i)) (in_vectors (witnesses r) w))
+      (same_marks (length cover) g.letters (λ i w. answer_from g (state_after g 0 (word cover i)) w)
+      (λ i w. after m (in_vectors (witnesses r) (word cover i)) (in_vectors (witnesses r) w))
       (λ i w hi hw. sym (after_is (witnesses r) m g a.reduced.machine letters answers (word cover i) w (All-get_or (IsWord g) cover i [] hi words) hw)) marks h)
 
 -- where members of a class advance alike, the states that are reached on all vectors are those reached on the witnesses
@@ -94,10 +97,18 @@ module _ {S : Type 0} (s : VectorSet) (r : Partition) (m : Meaning S) (covers : 
   leads_from t l = record { word = l.word; is_word = words-within s r covers l.word l.is_word; leads = l.leads }
 
   from_witnesses : (states : List S) → AreReached (Members (witnesses r)) m states → AreReached s m states
-  from_witnesses states h = record { reached = All-weaker (LeadsTo (Members (witnesses r)) m) (LeadsTo s m) leads_from states h.reached; different = h.different }
+  from_witnesses states h = record {
+    reached = All-weaker (LeadsTo (Members (witnesses r)) m) (LeadsTo s m) leads_from
+        states h.reached;
+    different = h.different;
+  }
 
   over_witnesses : (states : List S) → AreReached s m states → AreReached (Members (witnesses r)) m states
-  over_witnesses states h = record { reached = All-weaker (LeadsTo s m) (LeadsTo (Members (witnesses r)) m) leads_over states h.reached; different = h.different }
+  over_witnesses states h = record {
+    reached = All-weaker (LeadsTo s m) (LeadsTo (Members (witnesses r)) m) leads_over
+        states h.reached;
+    different = h.different;
+  }
 
   pub all_from_witnesses : (states : List S) → AreAllReached (Members (witnesses r)) m states → AreAllReached s m states
   all_from_witnesses states h = record { are_reached = from_witnesses states h.are_reached; each = λ t l. h.each t (leads_over t l) }

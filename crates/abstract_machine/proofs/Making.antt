@@ -1,26 +1,28 @@
 -- The machine of an exploration that is over.
-use Rattle.std.proofs.Common.{◌≡◌, ℕ, zero, suc, ◌+◌, ◌*◌, ◌/◌, ◌%◌, ◌<◌, ◌≤◌, ℤ, Bool, true, List, [], ◌∷◌, ◌++◌, length, map, get_or, slice_get, Contains, Some, refl, ap, sym, subst, ◌∙◌, inl, inr, All, append_assoc, arith}
+use Rattle.std.proofs.Common.{◌≡◌, ℕ, ◌+◌, ◌*◌, ◌/◌, ◌%◌, ◌<◌, ◌≤◌, ℤ, Bool, true, List, [], ◌∷◌, ◌++◌}
+use Rattle.std.proofs.Common.{length, map, get_or, slice_get, Some, refl, ap, sym, subst, ◌∙◌, inl, inr}
+use Rattle.std.proofs.Common.{append_assoc, arith}
 use Rattle.std.specs.Cmp.{IsEquivalence}
 use Rattle.std.specs.List.{IsDistinct}
 use Rattle.std.proofs.Math.Nat.{mod-lt}
 use Rattle.std.proofs.lemmas.Nat.{div-add-mod', div-mul-add, mul-add-lt}
-use Rattle.std.proofs.lemmas.List.Elements.{All-from_get_or, All-head, All-nil, All-tail}
+use Rattle.std.proofs.lemmas.List.Elements.{All-from_get_or, All-head, All-tail}
 use Rattle.std.proofs.lemmas.Option.{get_or_from_slice_get, same_Some, slice_get_within}
 use Rattle.std.proofs.lemmas.Bool.{both_ways, cases_order}
 use Rattle.std.proofs.lemmas.List.{append-nil, length-map}
 use Rattle.std.proofs.lemmas.Map.Keys.{apart_from_distinct}
 use Rattle.fsm_core.specs.Machine.{AreDifferent, IsMachine, IsWord, Machine, machine_of, next, number, reply_at, row, state_after}
-use Rattle.fsm_core.specs.Answers.{AllReached, answer_from}
+use Rattle.fsm_core.specs.Answers.{answer_from}
 use Rattle.input_classes.specs.declared.class.Class.{Class}
 use Rattle.input_classes.specs.Partition.{Partition, witnesses}
 use Rattle.input_classes.specs.VectorSet.{Members}
 use Rattle.subject.specs.Meaning.{LeadsTo, Meaning, answer_from as plan_from, state_after as plan_after}
 use Rattle.subject.specs.Suite.{in_vectors}
 use Rattle.word_pool.specs.Words.{word}
-use Rattle.word_pool.specs.Order.{IsBefore, IsUpTo}
+use Rattle.word_pool.specs.Order.{IsUpTo}
 use Rattle.word_pool.proofs.CallerLemmas.{up_to_both, up_to_push, up_to_trans}
-use Rattle.abstract_machine.specs.Explored.{IsBreadthFirst, IsExplored}
-use Rattle.abstract_machine.specs.Reached.{AreAllReached, AreReached, ReachesMore}
+use Rattle.abstract_machine.specs.Explored.{IsExplored}
+use Rattle.abstract_machine.specs.Reached.{AreReached, ReachesMore}
 use Rattle.abstract_machine.specs.inside.Exploring.{IsExploring, IsRow, state_of}
 use Rattle.abstract_machine.proofs.Keys.{all_by_place}
 use Rattle.abstract_machine.proofs.Reaching.{are_reached, contains_at, letters_of, no_more, same_place}
@@ -68,13 +70,16 @@ module _ {S : Type 0} (classes : List (List ℤ)) (m : Meaning S) (states : List
   step s b t h hb = rw (state_is s t h) (row_at s b (slice_get_within states s t h) hb).next
 
   replied : (s b : ℕ) (t : S) → slice_get states s ≡ Some t → b < length classes → reply_at replies (number f s b) ≡ m.reply t (get_or classes b [])
-  replied s b t h hb = rw (state_is s t h) (get_or_from_slice_get replies (number f s b) (m.reply (state_of classes m (word e.words s)) (get_or classes b [])) []
+  replied s b t h hb = rw (state_is s t h) (get_or_from_slice_get replies (number f s b)
+      (m.reply (state_of classes m (word e.words s)) (get_or classes b [])) []
       (row_at s b (slice_get_within states s t h) hb).reply)
 
-  follows : (w : List ℕ) (s : ℕ) (t : S) → slice_get states s ≡ Some t → IsWord f w → slice_get states (state_after f s w) ≡ Some (plan_after m t (in_vectors classes w))
+  follows : (w : List ℕ) (s : ℕ) (t : S) → slice_get states s ≡ Some t → IsWord f w →
+      slice_get states (state_after f s w) ≡ Some (plan_after m t (in_vectors classes w))
   follows [] s t h k = h
   follows (b ∷ w) s t h k =
-      follows w (next f s b) (m.next t (get_or classes b [])) (step s b t h (All-head (λ x. x < length classes) b w k)) (All-tail (λ x. x < length classes) b w k)
+      follows w (next f s b) (m.next t (get_or classes b [])) (step s b t h (All-head (λ x. x < length classes) b w
+      k)) (All-tail (λ x. x < length classes) b w k)
 
   answers : (w : List ℕ) (s : ℕ) (t : S) → slice_get states s ≡ Some t → IsWord f w → answer_from f s w ≡ plan_from m t (in_vectors classes w)
   answers [] s t h k = refl
@@ -106,12 +111,14 @@ module _ {S : Type 0} (classes : List (List ℤ)) (m : Meaning S) (states : List
 
   module _ (eq : S → S → Bool) (laws : IsEquivalence eq) (same : (x y : S) → eq x y ≡ true → x ≡ y) (once : IsDistinct eq states) where
     all_reached : AreReached (Members classes) m states
-    all_reached = are_reached classes m eq laws same states (all_by_place (LeadsTo (Members classes) m) states (found_reached classes m states replies rows at 0 e)) once
+    all_reached = are_reached classes m eq laws same states (all_by_place (LeadsTo (Members classes) m) states
+        (found_reached classes m states replies rows at 0 e)) once
 
     -- the word of a state leads to it
     leads : (s : ℕ) → s < length states → state_after f 0 (word e.words s) ≡ s
     leads s hs = let hw : s < length e.words = omega (arith, hs, e.size) in
-        same_place states all_reached.different (state_after f 0 (word e.words s)) s (state_of classes m (word e.words s)) (numbered (word e.words s) (e.letters s hw)) (e.leads s hw)
+        same_place states all_reached.different (state_after f 0 (word e.words s)) s
+        (state_of classes m (word e.words s)) (numbered (word e.words s) (e.letters s hw)) (e.leads s hw)
 
     pub explored : AreDifferent replies → IsExplored classes m f
     explored different = record {
@@ -137,7 +144,8 @@ module _ {S : Type 0} (classes : List (List ℤ)) (m : Meaning S) (states : List
       numbered = numbered;
     }
       where
-        first_is : (s : ℕ) (u : List ℕ) → s < length states → IsWord f u → state_after f 0 u ≡ s → ((v : List ℕ) → IsWord f v → state_after f 0 v ≡ s → IsUpTo u v) → u ≡ word e.words s
+        first_is : (s : ℕ) (u : List ℕ) → s < length states → IsWord f u → state_after f 0 u ≡ s →
+            ((v : List ℕ) → IsWord f v → state_after f 0 v ≡ s → IsUpTo u v) → u ≡ word e.words s
         first_is s u hs k there first = up_to_both u (word e.words s) (first (word e.words s) (e.letters s (omega (arith, hs, e.size))) (leads s hs))
             (subst (λ n. IsUpTo (word e.words n) u) there (upto_word u k))
 
@@ -156,7 +164,8 @@ different_from eq laws replies once i j hi hj e = elim (cases_order i j) as (λ 
         (subst (λ x. eq (reply_at replies i) x ≡ true) e (laws.refl (reply_at replies i)))
 
 -- the machine that is made of the classes of a partition
-module _ {S : Type 0} (cs : List Class) (r : Partition) (value : cs ≡ r.classes) (m : Meaning S) (states : List S) (replies : List (List ℤ)) (rows : List (ℕ × ℕ)) (at : ℕ)
+module _ {S : Type 0} (cs : List Class) (r : Partition) (value : cs ≡ r.classes) (m : Meaning S) (states : List S)
+    (replies : List (List ℤ)) (rows : List (ℕ × ℕ)) (at : ℕ)
     (e : IsExploring (map (λ (c : Class). c.witness) cs) m states replies rows at 0) (end : at ≡ length states) (some : 0 < length cs) (few : length cs ≤ 4096)
     (told : List (List ℤ)) (told_is : told ≡ replies) (different : AreDifferent replies) where
   some_witness : 0 < length (map (λ (c : Class). c.witness) cs)
@@ -169,10 +178,12 @@ module _ {S : Type 0} (cs : List Class) (r : Partition) (value : cs ≡ r.classe
   same_machine = λ i. machine_of (length-map cs (λ (c : Class). c.witness) i) rows (sym told_is i)
 
   pub made_machine : IsMachine (machine_of (length cs) rows told)
-  made_machine = subst IsMachine same_machine (is_machine (map (λ (c : Class). c.witness) cs) m states replies rows at e end some_witness few_witnesses different)
+  made_machine = subst IsMachine same_machine (is_machine (map (λ (c : Class). c.witness) cs) m states replies rows at
+      e end some_witness few_witnesses different)
 
   pub made_states : (fsm : Machine) → fsm ≡ machine_of (length cs) rows told → fsm.states ≡ length states
-  made_states fsm made = ap (λ f. f.states) (made ∙ sym same_machine) ∙ states_are (map (λ (c : Class). c.witness) cs) m states replies rows at e end some_witness few_witnesses
+  made_states fsm made = ap (λ f. f.states) (made ∙ sym same_machine) ∙ states_are (map (λ (c : Class). c.witness) cs)
+      m states replies rows at e end some_witness few_witnesses
 
   module _ (eq : S → S → Bool) (laws : IsEquivalence eq) (same : (x y : S) → eq x y ≡ true → x ≡ y) (once : IsDistinct eq states) where
     whole : IsExplored (map (λ (c : Class). c.witness) cs) m (machine_of (length (map (λ (c : Class). c.witness) cs)) rows replies)

@@ -1,15 +1,15 @@
 -- Words of letters and the words of vectors that they stand for, and the states that are reached.
-use Rattle.std.proofs.Common.{◌≡◌, ◌≢◌, ℕ, ◌<◌, ◌≤◌, ℤ, Bool, true, List, [], ◌∷◌, ◌++◌, length, map, get_or, slice_get, Contains, Some, refl, ap, sym, subst, ◌∙◌, inl, inr, All, AllPairs, arith}
+use Rattle.std.proofs.Common.{◌≡◌, ◌≢◌, ℕ, ◌<◌, ◌≤◌, ℤ, Bool, true, List, [], ◌∷◌, ◌++◌, length, get_or}
+use Rattle.std.proofs.Common.{slice_get, Contains, Some, refl, ap, sym, subst, ◌∙◌, inl, inr, All, AllPairs, arith}
 use Rattle.std.specs.Bool.{Decides}
 use Rattle.std.specs.Cmp.{IsEquivalence}
 use Rattle.std.specs.List.{IsDistinct}
-use Rattle.std.specs.Set.{is_member}
 use Rattle.std.proofs.lemmas.Bool.{cases_order}
 use Rattle.std.proofs.lemmas.List.{get_or_default, map-append}
 use Rattle.std.proofs.lemmas.List.Elements.{All-contains, All-cons, All-head, All-map, All-nil, All-tail, All-weaker, Contains-get_or}
 use Rattle.std.proofs.lemmas.Map.Made.{AllPairs-from_IsDistinct, IsDistinct-from_AllPairs, is_member-Decides, length-le_from_is_member}
 use Rattle.std.proofs.lemmas.Option.{get_or_from_slice_get, slice_get_within}
-use Rattle.input_classes.specs.VectorSet.{IsIn, IsWordOf, Members, Word, box_of}
+use Rattle.input_classes.specs.VectorSet.{IsWordOf, Members, Word, box_of}
 use Rattle.lin_form.specs.Atom.{IsAsSaid}
 use Rattle.lin_form.specs.Signature.{IsInInputRanges}
 use Rattle.subject.specs.Meaning.{IsReached, LeadsTo, Meaning, state_after}
@@ -37,7 +37,8 @@ same_place xs different i j x h k =
 
 module _ (classes : List (List ℤ)) where
   pub vectors-members : (w : List ℕ) → AreBelow (length classes) w → IsWordOf (Members classes) (in_vectors classes w)
-  vectors-members w h = All-map (Contains classes) (λ a. get_or classes a []) w (All-weaker (λ b. b < length classes) (λ a. Contains classes (get_or classes a []))
+  vectors-members w h = All-map (Contains classes) (λ a. get_or classes a []) w (All-weaker (λ b. b < length classes)
+      (λ a. Contains classes (get_or classes a []))
       (λ a k. Contains-get_or classes a [] k) w h)
 
   -- a word of the vectors is that of some letters
@@ -51,15 +52,21 @@ module _ (classes : List (List ℤ)) where
 
   module _ {S : Type 0} (m : Meaning S) where
     pub state-push : (w : List ℕ) (b : ℕ) → state_of classes m (w ++ b ∷ []) ≡ m.next (state_of classes m w) (get_or classes b [])
-    state-push w b = ap (state_after m m.start) (map-append (λ a. get_or classes a []) w (b ∷ [])) ∙ state_after-append m m.start (in_vectors classes w) (get_or classes b [] ∷ [])
+    state-push w b = ap (state_after m m.start) (map-append (λ a. get_or classes a []) w (b ∷ [])) ∙
+        state_after-append m m.start (in_vectors classes w) (get_or classes b [] ∷ [])
 
     pub leads_there : (w : List ℕ) (t : S) → AreBelow (length classes) w → state_of classes m w ≡ t → LeadsTo (Members classes) m t
     leads_there w t h e = record { word = in_vectors classes w; is_word = vectors-members w h; leads = e }
 
     -- the vectors lie in the ranges of the inputs, so the state is reached
-    pub reached : All (IsInInputRanges m.signature.inputs) classes → (w : List ℕ) (t : S) → AreBelow (length classes) w → state_of classes m w ≡ t → IsReached m t
+    pub reached : All (IsInInputRanges m.signature.inputs) classes → (w : List ℕ) (t : S) →
+        AreBelow (length classes) w → state_of classes m w ≡ t → IsReached m t
     reached ranges w t h e = reached_more (Members classes) m (box_of m.signature []) t
-        (λ x k. record { inside = All-contains (IsInInputRanges m.signature.inputs) classes x ranges k; said = All-nil (λ literal. IsAsSaid literal x) }) ∣ leads_there w t h e ∣₁
+        (λ x k. record {
+          inside = All-contains (IsInInputRanges m.signature.inputs) classes x ranges k;
+          said =
+              All-nil (λ literal. IsAsSaid literal x);
+        }) ∣ leads_there w t h e ∣₁
 
     module _ (eq : S → S → Bool) (laws : IsEquivalence eq) (same : (x y : S) → eq x y ≡ true → x ≡ y) where
       decides : (x y : S) → Decides (eq x y) (x ≡ y)
@@ -72,5 +79,6 @@ module _ (classes : List (List ℤ)) where
       pub no_more : (states : List S) → AreAllReached (Members classes) m states → (n : ℕ) → length states ≤ n → ReachesMore n (Members classes) m → ⊥
       no_more states all n few h =
           let most = length-le_from_is_member laws h.states states (IsDistinct-from_AllPairs decides h.states h.are_reached.different) (λ q k.
-          (is_member-Decides decides states q).1 (all.each q (All-contains (LeadsTo (Members classes) m) h.states q h.are_reached.reached ((is_member-Decides decides h.states q).0 k)))) in
+          (is_member-Decides decides states q).1 (all.each q (All-contains (LeadsTo (Members classes) m) h.states q
+          h.are_reached.reached ((is_member-Decides decides h.states q).0 k)))) in
           omega (arith, most, few, h.more)

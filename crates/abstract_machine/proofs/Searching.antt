@@ -1,5 +1,6 @@
 -- The steps of an exploration.
-use Rattle.std.proofs.Common.{◌≡◌, ℕ, ◌+◌, ◌*◌, ◌<◌, ◌≤◌, ℤ, Bool, true, List, [], ◌∷◌, ◌++◌, length, map, get_or, slice_get, Some, refl, ap, sym, subst, ◌∙◌, inl, inr, All, arith}
+use Rattle.std.proofs.Common.{◌≡◌, ℕ, ◌+◌, ◌*◌, ◌<◌, ◌≤◌, ℤ, Bool, true, List, [], ◌∷◌, ◌++◌, length, map, get_or}
+use Rattle.std.proofs.Common.{slice_get, Some, refl, ap, sym, ◌∙◌, inl, inr, All, arith}
 use Rattle.std.specs.Cmp.{IsEquivalence}
 use Rattle.std.specs.List.{IsDistinct}
 use Rattle.std.proofs.lemmas.Bool.{cases_lt}
@@ -96,10 +97,12 @@ module _ {S : Type 0} (classes : List (List ℤ)) (m : Meaning S) where
       pub all_reached : (states' : List S) (n : ℕ) → IsNumbered states next states' n → All (LeadsTo (Members classes) m) states'
       all_reached states' n numbered = elim numbered.grown as (λ _. All (LeadsTo (Members classes) m) states') [
         | inl same ↦ rw (same) (all_by_place (LeadsTo (Members classes) m) states found_reached)
-        | inr more ↦ rw (more.0) (All-push (LeadsTo (Members classes) m) states next (all_by_place (LeadsTo (Members classes) m) states found_reached) next_leads)
+        | inr more ↦ rw (more.0) (All-push (LeadsTo (Members classes) m) states next
+            (all_by_place (LeadsTo (Members classes) m) states found_reached) next_leads)
       ]
 
-      pub too_many : (eq : S → S → Bool) → IsEquivalence eq → ((x y : S) → eq x y ≡ true → x ≡ y) → (states' : List S) (n : ℕ) → IsNumbered states next states' n →
+      pub too_many : (eq : S → S → Bool) → IsEquivalence eq → ((x y : S) → eq x y ≡ true → x ≡ y) →
+          (states' : List S) (n : ℕ) → IsNumbered states next states' n →
           IsDistinct eq states' → 1024 ≤ n → ReachesMore 1024 (Members classes) m
       too_many eq laws same states' n numbered once most = record {
         states = states';
@@ -114,17 +117,25 @@ module _ {S : Type 0} (classes : List (List ℤ)) (m : Meaning S) where
             IsRow classes m words' states' replies' i b row
         old_row i b hb h row r =
             let i_inside : i < length e.words = omega (arith, at_words, e.rows_size, ha, h, row_before i b hb h) in
-            let target : row.0 < length e.words = omega (arith, e.size, slice_get_within states row.0 (m.next (state_of classes m (word e.words i)) (get_or classes b [])) r.next) in
+            let target : row.0 < length e.words = omega (
+              arith,
+              e.size,
+              slice_get_within
+                  states row.0 (m.next (state_of classes m (word e.words i)) (get_or classes b [])) r.next,
+            ) in
             record {
-              next = rw (words_kept i i_inside) (kept states next states' n numbered row.0 (m.next (state_of classes m (word e.words i)) (get_or classes b [])) r.next);
-              reply = rw (words_kept i i_inside) (kept replies reply replies' k told row.1 (m.reply (state_of classes m (word e.words i)) (get_or classes b [])) r.reply);
+              next = rw (words_kept i i_inside) (kept states next states' n numbered row.0
+                  (m.next (state_of classes m (word e.words i)) (get_or classes b [])) r.next);
+              reply = rw (words_kept i i_inside) (kept replies reply replies' k told row.1
+                  (m.reply (state_of classes m (word e.words i)) (get_or classes b [])) r.reply);
               upto = rw (words_kept i i_inside, words_kept row.0 target) r.upto;
             }
           where
             row_before : (i b : ℕ) → b < length classes → i * length classes + b < length rows → i ≤ at
             row_before i b hb h = elim (cases_lt at i) as (λ _. i ≤ at) [
               | inl more ↦
-                  let le : (at + 1) * length classes ≤ i * length classes = mul-le (at + 1) (length classes) i (length classes) (omega (arith, more)) (omega arith) in
+                  let le : (at + 1) * length classes ≤ i * length classes = mul-le (at + 1) (length classes) i
+                  (length classes) (omega (arith, more)) (omega arith) in
                   absurd (omega (arith, le, h, e.rows_size, ha))
               | inr less ↦ less
             ]
@@ -140,7 +151,8 @@ module _ {S : Type 0} (classes : List (List ℤ)) (m : Meaning S) where
             IsRow classes m words' states' replies' i b (get_or (rows ++ (n, k) ∷ []) (i * length classes + b) (0, 0))
         done_more i b hb h = elim (cases_lt (i * length classes + b) (length rows))
             as (λ _. IsRow classes m words' states' replies' i b (get_or (rows ++ (n, k) ∷ []) (i * length classes + b) (0, 0))) [
-              | inl before ↦ rw (get_or_append_left rows ((n, k) ∷ []) (0, 0) (i * length classes + b) before) (old_row i b hb before (get_or rows (i * length classes + b) (0, 0)) (e.done i b hb before))
+              | inl before ↦ rw (get_or_append_left rows ((n, k) ∷ []) (0, 0) (i * length classes + b) before)
+                  (old_row i b hb before (get_or rows (i * length classes + b) (0, 0)) (e.done i b hb before))
               | inr after ↦
                   let last : i * length classes + b ≡ length rows = omega (arith, after, h, length_push rows (n, k)) in
                   let same = same_from_place i b at a (length classes) hb ha (last ∙ e.rows_size) in
@@ -197,7 +209,13 @@ module _ {S : Type 0} (classes : List (List ℤ)) (m : Meaning S) where
         root = old_word 0 (omega (arith, e.some, e.size)) ∙ e.root;
         letters = λ i h. elim (cases_lt i (length e.words)) as (λ _. AreBelow (length classes) (word words' i)) [
           | inl before ↦ rw (old_word i before) (e.letters i before)
-          | inr after ↦ let is : i ≡ length e.words = omega (arith, after, h, length_push e.words (word e.words at ++ a ∷ [])) in rw (is, new_word) letters_of_next
+          | inr after ↦ let is : i ≡ length e.words = omega (
+            arith,
+            after,
+            h,
+            length_push e.words
+                (word e.words at ++ a ∷ []),
+          ) in rw (is, new_word) letters_of_next
         ];
         leads = λ i h. elim (cases_lt i (length e.words)) as (λ _. slice_get (states ++ next ∷ []) i ≡ Some (state_of classes m (word words' i))) [
           | inl before ↦ rw (old_word i before) (get-push_left states next i (omega (arith, before, e.size)) ∙ e.leads i before)
@@ -205,7 +223,11 @@ module _ {S : Type 0} (classes : List (List ℤ)) (m : Meaning S) where
               let is : i ≡ length states = omega (arith, after, h, e.size, length_push e.words (word e.words at ++ a ∷ [])) in
               rw (is, last_word) (get-push_last states next ∙ ap Some (sym next_reached))
         ];
-        done = done_more (states ++ next ∷ []) (length states) (record { there = get-push_last states next; grown = inr (refl, refl) }) low replies' k told words' size' old_word
+        done = done_more (states ++ next ∷ []) (length states) (record {
+          there = get-push_last states next;
+          grown =
+              inr (refl, refl);
+        }) low replies' k told words' size' old_word
             (inl last_word);
         ascending = λ i j h k. elim (cases_lt j (length e.words)) as (λ _. IsBefore (word words' i) (word words' j)) [
           | inl before ↦ rw (old_word i (omega (arith, h, before)), old_word j before) (e.ascending i j h before)
@@ -217,7 +239,8 @@ module _ {S : Type 0} (classes : List (List ℤ)) (m : Meaning S) where
         tried = λ h j k. rw (old_word at at_words)
             (let later = before_letter (word e.words at) a (a + 1) (omega arith) in
             elim (cases_lt j (length e.words)) as (λ _. IsBefore (word words' j) (word e.words at ++ (a + 1) ∷ [])) [
-              | inl before ↦ rw (old_word j before) (before_trans (word e.words j) (word e.words at ++ a ∷ []) (word e.words at ++ (a + 1) ∷ []) (e.tried at_words j before) later)
+              | inl before ↦ rw (old_word j before) (before_trans (word e.words j) (word e.words at ++ a ∷ [])
+                  (word e.words at ++ (a + 1) ∷ []) (e.tried at_words j before) later)
               | inr after ↦
                   let is : j ≡ length e.words = omega (arith, after, k, length_push e.words (word e.words at ++ a ∷ [])) in
                   rw (is, new_word) later
@@ -225,7 +248,8 @@ module _ {S : Type 0} (classes : List (List ℤ)) (m : Meaning S) where
       }
 
       -- one row more
-      pub exploring_row : (states' : List S) (n : ℕ) → IsNumbered states next states' n → n < 1024 → (replies' : List (List ℤ)) (k : ℕ) → IsNumbered replies reply replies' k →
+      pub exploring_row : (states' : List S) (n : ℕ) → IsNumbered states next states' n → n < 1024 →
+          (replies' : List (List ℤ)) (k : ℕ) → IsNumbered replies reply replies' k →
           (rows' : List (ℕ × ℕ)) → rows' ≡ rows ++ (n, k) ∷ [] → IsExploring classes m states' replies' rows' at (a + 1)
       exploring_row states' n numbered low replies' k told rows' grown = elim numbered.grown as (λ _. IsExploring classes m states' replies' rows' at (a + 1)) [
         | inl same ↦ rw (grown, same) (exploring_again n (rw (same) at numbered.there) low replies' k told)
@@ -233,5 +257,6 @@ module _ {S : Type 0} (classes : List (List ℤ)) (m : Meaning S) where
       ]
 
 -- the witness of a class by its letter
-pub witness_at : (classes : List Class) (a : ℕ) (class : Class) → a < length classes → class ≡ get_or classes a class → class.witness ≡ get_or (map (λ (c : Class). c.witness) classes) a []
+pub witness_at : (classes : List Class) (a : ℕ) (class : Class) → a < length classes →
+    class ≡ get_or classes a class → class.witness ≡ get_or (map (λ (c : Class). c.witness) classes) a []
 witness_at classes a class h is = ap (λ (c : Class). c.witness) is ∙ sym (get_or-map (λ (c : Class). c.witness) classes a class [] h)

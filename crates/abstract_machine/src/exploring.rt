@@ -9,7 +9,7 @@ ghost use Rattle.abstract_machine.specs.Reached.{ReachesMore};
 ghost use Rattle.abstract_machine.specs.inside.Exploring.{IsExploring};
 
 use crate::ExploreError;
-use crate::numbering::number_of;
+use crate::numbering::{Recent, number_of};
 use class_split::{Class, Partition};
 use fsm_core::{Fsm, Rows};
 use indexmap::IndexSet;
@@ -44,7 +44,7 @@ pub fn explore<P: Plan>(
     let mut states = IndexSet::new(alloc);
     let mut replies = IndexSet::new(alloc);
     let mut rows = Rows::with_capacity(alloc, classes.len())?;
-    let _start = number_of(&mut states, &plan.begin(), 0)?;
+    let _start = number_of(&mut states, &plan.begin(), &mut Recent::new(0))?;
     let mut at = 0;
     while at < states.len() {
         expand(plan, classes, at, &mut states, &mut replies, &mut rows)?;
@@ -78,15 +78,15 @@ fn expand<P: Plan>(
         → ReachesMore 1024 (Members (map (λ (c : ClassValue). c.witness) classes.now)) (P.plan plan.now)) }
 {
     let state = states.as_slice()[at];
-    let mut next = 0;
-    let mut reply = 0;
+    let mut recent_states = Recent::new(at);
+    let mut recent_replies = Recent::new(0);
     for class in classes {
         let step = plan.advance(&state, &class.witness);
-        next = number_of(states, &step.state, next)?;
+        let next = number_of(states, &step.state, &mut recent_states)?;
         if next >= 1024 {
             return Err(ExploreError::TooManyConfigurations);
         }
-        reply = number_of(replies, &step.reply, reply)?;
+        let reply = number_of(replies, &step.reply, &mut recent_replies)?;
         rows.push(next, reply)?;
     }
     Ok(())

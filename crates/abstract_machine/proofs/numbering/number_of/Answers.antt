@@ -1,9 +1,9 @@
 use Rattle.abstract_machine.proofs.Keys.{numbered_found, numbered_near}
 use Rattle.abstract_machine.proofs.numbering.number_of.Goals as goal
 
-pub returns-then-is_at-clause-numbered : goal.returns-then-is_at-clause-numbered
-returns-then-is_at-clause-numbered g c same = numbered_near g.K.PartialEq.eq same c.args.keys.now.keys c.args.key.now c.args.near
-    (rw (c.as_slice.ensures.keys) at (c.is_at.ensures c.if-is_at.true))
+pub returns-in-Some-clause-numbered : goal.returns-in-Some-clause-numbered
+returns-in-Some-clause-numbered g c same = numbered_near g.K.PartialEq.eq same c.args.keys.now.keys c.args.key.now c.in-Some.place
+    (rw (c.as_slice.ensures.keys) at c.in-Some.ensures)
 
 pub returns-clause-numbered : goal.returns-clause-numbered
 returns-clause-numbered g c same =
