@@ -1,5 +1,5 @@
 -- The parts of the suite, the suite, its shape and its completeness.
-use Rattle.std.proofs.Common.{◌≡◌, ℕ, ◌+◌, ◌-◌, ◌<◌, List, [], ◌∷◌, length, map, refl, sym, ap, ◌∙◌, subst, ℤ}
+use Rattle.std.proofs.Common.{◌≡◌, ℕ, ◌+◌, ◌-◌, List, [], ◌∷◌, length, map, refl, sym, ap, ◌∙◌, subst, ℤ}
 use Rattle.std.specs.List.{All}
 use Rattle.std.proofs.lemmas.List.{length-map}
 use Rattle.std.proofs.lemmas.List.Elements.{All-map, All-weaker}
@@ -21,9 +21,10 @@ use Rattle.suite_words.specs.Marks.{AreMarksBy}
 use Rattle.suite_words.specs.Tests.{AreTests}
 use Rattle.suite_model.specs.Pooled.{MakeSuite, pooled_tests}
 use Rattle.word_pool.specs.Words.{word, words_at, ArePooled}
-use Rattle.concretise.specs.Concrete.{AreSuiteWords, AreWordsFor, answered, suite_of}
-use Rattle.concretise.specs.inside.Replies.{AreReplies}
-use Rattle.concretise.proofs.Replying.{parts_are, tests_are}
+use Rattle.plan_replies.specs.Replies.{AreReplies, answered}
+use Rattle.plan_replies.proofs.CallerLemmas.{tests_are}
+use Rattle.concretise.specs.Concrete.{AreSuiteWords, AreWordsFor, suite_of}
+use Rattle.concretise.proofs.Replying.{parts_are}
 
 -- the witnesses lie in the ranges of the inputs
 pub witnesses_inside : (r : Partition) (inputs : List Input) (vs : List (List ℤ)) → vs ≡ witnesses r → r.ranges ≡ ranges_of inputs → IsPartition r → All (IsInInputRanges inputs) vs

@@ -1,18 +1,15 @@
 -- The suite of a plan's answers to words of letters.
-use Rattle.std.specs.Prelude.{ℕ, ◌+◌, ◌-◌, ◌<◌, ◌≤◌, ℤ, List, length, map}
+use Rattle.std.specs.Prelude.{ℕ, ◌+◌, ◌-◌, ◌<◌, ◌≤◌, List, length, map}
 use Rattle.std.specs.List.{All}
 use Rattle.input_classes.specs.Partition.{Partition, witnesses}
-use Rattle.subject.specs.Meaning.{Meaning, answer}
+use Rattle.plan_replies.specs.Replies.{answered}
+use Rattle.subject.specs.Meaning.{Meaning}
 use Rattle.subject.specs.Shape.{LeadAlikeBy, answer_after}
-use Rattle.subject.specs.Suite.{SuiteParts, Test, in_vectors}
+use Rattle.subject.specs.Suite.{SuiteParts}
 use Rattle.suite_words.specs.Cover.{AreLetters, IsCoverBy}
 use Rattle.suite_words.specs.Marks.{AreMarksBy}
 use Rattle.suite_words.specs.Tests.{AreTests}
 use Rattle.word_pool.specs.Words.{word, words_at, AreIds, ArePrefixesOf}
-
--- a word of letters with the plan's answer to the vectors that it stands for
-abbrev pub answered : {S : Type 0} → Meaning S → List (List ℤ) → List ℕ → Test
-answered m classes w = record { letters = w; replies = answer m (in_vectors classes w) }
 
 -- the suite over the witnesses whose words are those with these ids, and whose replies are the plan's answers
 abbrev pub suite_of : {S : Type 0} → Meaning S → Partition → ℕ → List (List ℕ) → List ℕ → List ℕ → List ℕ → SuiteParts

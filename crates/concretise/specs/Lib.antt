@@ -1,2 +1,1 @@
 pub mod Concrete
-pub mod inside

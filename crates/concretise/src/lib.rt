@@ -4,4 +4,4 @@
 mod answering;
 mod copying;
 
-pub use answering::suite_of_words;
+pub use answering::concrete;

@@ -11,10 +11,9 @@ use crate::MakeError;
 use crate::machine::machine_of;
 use crate::words::words_of;
 use class_split::Partition;
-use concretise::suite_of_words;
+use concretise::concrete;
 use std::alloc::Global;
 use subject::Plan;
-use suite_build::Letters;
 use suite_model::Suite;
 use word_pool::Pool;
 
@@ -46,21 +45,6 @@ pub fn make_suite<P: Plan>(
     let fsm = machine_of(alloc, plan, partition)?;
     let mut pool = Pool::new(alloc)?;
     let letters = words_of(alloc, &fsm, bound, &mut pool)?;
-    let Letters {
-        cover,
-        marks,
-        tests,
-        ..
-    } = letters;
-    let suite = suite_of_words(
-        alloc,
-        bound,
-        cover.words(),
-        marks.words(),
-        tests,
-        pool,
-        partition,
-        plan,
-    )?;
+    let suite = concrete(alloc, letters, pool, partition, plan)?;
     Ok(suite)
 }

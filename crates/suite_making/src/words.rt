@@ -27,6 +27,7 @@ pub fn words_of(
     ensures refused { IfErr result (AreWordsRefused fsm.now.states fsm.now.letters bound) }
     ensures within { OnOk result (fsm.now.states ≤ bound) }
     ensures steps { OnOk result (steps fsm.now.states fsm.now.letters bound ≤ 20000000) }
+    ensures bound { IfOk result (λ l. l.bound ≡ bound) }
     ensures words { IfOk result (λ l. AreWordsOf fsm.now bound pool.new.words l.cover l.marks l.tests.items) }
 {
     let _steps = steps_of(fsm.states(), fsm.letters(), bound)?;

@@ -6,7 +6,7 @@ use Rattle.lin_form.specs.declared.signature.Signature.{Signature}
 use Rattle.lin_form.specs.Signature.{IsInInputRanges}
 use Rattle.word_pool.specs.Words.{word, words_at, AreIds, ArePrefixesOf}
 use Rattle.suite_words.specs.Cover.{AreLetters}
-use Rattle.subject.specs.Suite.{Test}
+use Rattle.subject.specs.Suite.{SuiteParts, Test}
 
 -- the place of a word in a list of words, or their number
 abbrev pub number_of : List (List ℕ) → List ℕ → ℕ
@@ -47,3 +47,9 @@ pub record MakeSuite (signature : Signature) (classes : List (List ℤ)) (cover 
   pub prefixes : ArePrefixesOf words (words_at words ids)
   pub one_each : length words ≡ length replies + 1
   pub counts : All (λ r. length r ≡ length signature.outputs) replies
+
+-- a suite has the words of a pool with these replies
+pub record IsPooled (s : SuiteParts) (words : List (List ℕ)) (replies : List (List ℤ)) : Type 0 where
+  pub ids : List ℕ
+  pub makes : MakeSuite s.signature s.classes s.cover s.marks words ids replies
+  pub tests : s.tests ≡ pooled_tests words replies ids

@@ -3,7 +3,8 @@ ghost use Rattle.std.specs.Prelude.{◌≡◌, ℕ, ◌+◌, ◌<◌, ◌≤◌,
 ghost use Rattle.std.specs.List.{All};
 ghost use Rattle.subject.specs.Suite.{SuiteParts, Test};
 ghost use Rattle.suite_model.specs.Suite.{IsSuite};
-ghost use Rattle.suite_model.specs.Pooled.{MakeSuite, lists, pooled_tests};
+ghost use Rattle.word_pool.specs.Words.{ArePooled};
+ghost use Rattle.suite_model.specs.Pooled.{IsPooled, MakeSuite, lists, pooled_tests};
 ghost use Rattle.suite_model.specs.Scratch.{IsMadeFor, HasTest};
 
 use crate::{Replies, Scratch};
@@ -79,8 +80,8 @@ impl Suite {
         )
     }
 
-    /// The suite of these parts, as `from_pool` makes it. The reply to the last letter of the word with number k stands at place k - 1 of
-    /// `replies`. It takes no memory.
+    /// The suite of these parts, as `from_pool` makes it: the reply to the last letter of the word with number k stands
+    /// at place k - 1 of `replies`. It takes no memory.
     pub fn from_replies(
         signature: Signature,
         bound: usize,
@@ -165,6 +166,16 @@ impl Suite {
         ensures { result ≡ length self.now.marks }
     {
         self.marks.len()
+    }
+
+    /// The words of its tests with all their prefixes, and the replies to the last letters of these: that of the word
+    /// with number k stands at place k - 1.
+    pub fn pooled(&self) -> (&Pool, &Replies)
+        ensures pool { ArePooled result.0.now.words }
+        ensures suite { IsPooled self.now result.0.now.words result.1.now }
+    {
+        let _count = self.pool.words();
+        (&self.pool, &self.replies)
     }
 
     /// The number of letters of the longest test.

@@ -3,4 +3,4 @@
 
 mod run;
 
-pub use run::{drive, verdict_on_plan};
+pub use run::{drive, verdict_by_words, verdict_on_plan};

@@ -13,6 +13,8 @@ ghost use Rattle.test_subject.specs.Exchange.{turns, lines, lines_to, replies_to
 ghost use Rattle.suite_run.specs.inside.Running.{Tries};
 
 use lin_form::Reply;
+use plan_replies::gives_expected;
+use std::alloc::Global;
 use subject::Plan;
 use suite_model::{Scratch, Suite, suite_keeps_rules};
 use test_subject::{PlanSubject, Subject, Verdict};
@@ -132,5 +134,25 @@ pub fn verdict_on_plan<P: Plan + Drop>(suite: &Suite, plan: P, scratch: &mut Scr
     match drive(suite, &mut subject, scratch) {
         Ok(verdict) => verdict,
         Err(_) => unreachable!(),
+    }
+}
+
+/// The verdict on a plan. Where the plan gives the expected reply to each word of the suite, one walk over these words
+/// tells it, and no test is run. The walk takes memory; where there is none, the tests are run.
+pub fn verdict_by_words<P: Plan + Drop>(
+    alloc: Global,
+    suite: &Suite,
+    plan: P,
+    scratch: &mut Scratch,
+) -> Verdict
+    requires made { IsMadeFor suite.now scratch.old }
+    requires fits { IsFitting suite.now.signature (P.plan plan).signature }
+    ensures verdict { IsVerdict (answer (P.plan plan)) (tests_of suite.now) result }
+    ensures differs { NamesDifference (tests_of suite.now) result }
+    ensures made { IsMadeFor suite.now scratch.new }
+{
+    match gives_expected(alloc, suite, &plan) {
+        Ok(true) => Verdict::Pass,
+        _ => verdict_on_plan(suite, plan, scratch),
     }
 }

@@ -20,15 +20,14 @@ returns-in_err-letters-clause-refused g c =
     passed_up c.from_residual-in_err-letters.result c.in_err-letters.field-0.0 (IsRefused m r c.args.bound) c.from_residual-in_err-letters.ensures.1
     (refused m r c.in_ok-fsm.fsm a (covers_box m r exact.exact c.requires.ranges) c.requires.alike c.args.bound c.in_err-letters.field-0.0 c.in_ok-fsm.ensures.few c.in_err-letters.ensures.refused)
 
-pub suite_of_words-requires-clause-words : goal.suite_of_words-requires-clause-words
-suite_of_words-requires-clause-words g c =
+pub concrete-requires-clause-words : goal.concrete-requires-clause-words
+concrete-requires-clause-words g c =
     let m = g.P.Plan.plan c.args.plan.now in
     let r = c.args.partition.now in
     let exact = c.classes-classes.ensures.exact in
     let a = c.in_ok-fsm.ensures.machine in
-    rw (c.words.ensures, c.words-2.ensures)
-    (suite_words c.in_ok-fsm.fsm c.args.bound c.words_of.new.pool.words c.in_ok-letters.letters.cover c.in_ok-letters.letters.marks c.in_ok-letters.letters.tests.items a.reduced.machine
-    c.in_ok-letters.ensures.words (length r.classes) (letters m r c.in_ok-fsm.fsm a (covers_box m r exact.exact c.requires.ranges) c.requires.alike))
+    suite_words c.in_ok-fsm.fsm c.args.bound c.words_of.new.pool.words c.in_ok-letters.letters.cover c.in_ok-letters.letters.marks c.in_ok-letters.letters.tests.items a.reduced.machine
+    c.in_ok-letters.ensures.words (length r.classes) (letters m r c.in_ok-fsm.fsm a (covers_box m r exact.exact c.requires.ranges) c.requires.alike)
 
 pub returns-clause-allowed : goal.returns-clause-allowed
 returns-clause-allowed g c =
@@ -45,7 +44,7 @@ returns-clause-shape g c =
     let exact = c.classes-classes.ensures.exact in
     let made : MembersActAlike (box (g.P.Plan.plan c.args.plan.now) c.args.partition.now) c.args.partition.now (g.P.Plan.plan c.args.plan.now)
     → AreWordsFor (g.P.Plan.plan c.args.plan.now) c.args.partition.now c.args.bound (words_at c.words_of.new.pool.words c.in_ok-letters.letters.cover) (words_at c.words_of.new.pool.words c.in_ok-letters.letters.marks) (words_at c.words_of.new.pool.words c.in_ok-letters.letters.tests.items)
-    → HasShape (g.P.Plan.plan c.args.plan.now) c.args.partition.now c.args.bound c.in_ok-suite.suite × Complete (g.P.Plan.plan c.args.plan.now) c.args.partition.now c.args.bound (tests_of c.in_ok-suite.suite) = rw (c.words.ensures, c.words-2.ensures) at c.in_ok-suite.ensures.complete in
+    → HasShape (g.P.Plan.plan c.args.plan.now) c.args.partition.now c.args.bound c.in_ok-suite.suite × Complete (g.P.Plan.plan c.args.plan.now) c.args.partition.now c.args.bound (tests_of c.in_ok-suite.suite) = rw c.in_ok-letters.ensures.bound at c.in_ok-suite.ensures.complete in
     (made c.requires.alike (words_for m r c.in_ok-fsm.fsm c.in_ok-fsm.ensures.machine (covers_box m r exact.exact c.requires.ranges) c.requires.alike c.args.bound c.words_of.new.pool.words
     c.in_ok-letters.letters.cover c.in_ok-letters.letters.marks c.in_ok-letters.letters.tests.items c.in_ok-letters.ensures.within c.in_ok-letters.ensures.words)).0
 
@@ -56,6 +55,6 @@ returns-clause-complete g c =
     let exact = c.classes-classes.ensures.exact in
     let made : MembersActAlike (box (g.P.Plan.plan c.args.plan.now) c.args.partition.now) c.args.partition.now (g.P.Plan.plan c.args.plan.now)
     → AreWordsFor (g.P.Plan.plan c.args.plan.now) c.args.partition.now c.args.bound (words_at c.words_of.new.pool.words c.in_ok-letters.letters.cover) (words_at c.words_of.new.pool.words c.in_ok-letters.letters.marks) (words_at c.words_of.new.pool.words c.in_ok-letters.letters.tests.items)
-    → HasShape (g.P.Plan.plan c.args.plan.now) c.args.partition.now c.args.bound c.in_ok-suite.suite × Complete (g.P.Plan.plan c.args.plan.now) c.args.partition.now c.args.bound (tests_of c.in_ok-suite.suite) = rw (c.words.ensures, c.words-2.ensures) at c.in_ok-suite.ensures.complete in
+    → HasShape (g.P.Plan.plan c.args.plan.now) c.args.partition.now c.args.bound c.in_ok-suite.suite × Complete (g.P.Plan.plan c.args.plan.now) c.args.partition.now c.args.bound (tests_of c.in_ok-suite.suite) = rw c.in_ok-letters.ensures.bound at c.in_ok-suite.ensures.complete in
     (made c.requires.alike (words_for m r c.in_ok-fsm.fsm c.in_ok-fsm.ensures.machine (covers_box m r exact.exact c.requires.ranges) c.requires.alike c.args.bound c.words_of.new.pool.words
     c.in_ok-letters.letters.cover c.in_ok-letters.letters.marks c.in_ok-letters.letters.tests.items c.in_ok-letters.ensures.within c.in_ok-letters.ensures.words)).1

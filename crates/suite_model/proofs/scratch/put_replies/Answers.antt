@@ -1,4 +1,4 @@
-use Rattle.std.proofs.Common.{◌≡◌, ◌+◌, ◌-◌, ◌<◌, ◌≤◌, ◌∙◌, length, sym, arith}
+use Rattle.std.proofs.Common.{◌-◌, ◌≤◌, ◌∙◌, length, arith}
 use Rattle.std.proofs.lemmas.List.{length-set}
 use Rattle.word_pool.specs.Words.{word}
 use Rattle.suite_model.proofs.Putting.{whole_word, at_inside, at_some, at_below, at_length, prefix_there, reply_put, all_put}
