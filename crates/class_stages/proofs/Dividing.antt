@@ -21,7 +21,8 @@ use Rattle.guard_atoms.specs.Atoms.{atoms_in, guard_comparisons, has_large_coeff
 use Rattle.guard_atoms.specs.Answers.{AreAtomsOf, IsAtomFault, AreAssumedOf, IsAssumedFault}
 use Rattle.guard_atoms.specs.declared.error.AtomError.{AtomError}
 use Rattle.guard_atoms.specs.declared.error.AtomError.TheVariants as atom_error
-use Rattle.command_stages.specs.declared.stop.Stop.TheVariants.{NoMemory}
+use Rattle.command_stages.specs.declared.stop.Departure.TheVariants.{NoMemory}
+use Rattle.command_stages.specs.declared.stop.Stop.TheVariants.{Departed}
 use Rattle.command_stages.specs.Stage.{Made}
 use Rattle.test_world.specs.Shelf.{ShelfState}
 use Rattle.command_stages.proofs.Stages.{made_then, made_stop, made_is, made_unless, made_refusal, made_unknown}
@@ -140,5 +141,5 @@ made_classes name chart cuts known h =
     (made_is _ (divided chart cuts known h)))))
 
 -- no memory for the ranges
-pub unbounded : (name : ℕ) (chart : Chart) (cuts : List Comparison) {words : List (List ℕ)} {shelf : ShelfState} → Made (ClassesOver name chart cuts) words shelf shelf (Err NoMemory)
+pub unbounded : (name : ℕ) (chart : Chart) (cuts : List Comparison) {words : List (List ℕ)} {shelf : ShelfState} → Made (ClassesOver name chart cuts) words shelf shelf (Err (Departed NoMemory))
 unbounded name chart cuts = made_stop _ _ (made_unknown _ _)

@@ -6,7 +6,7 @@ ghost use Rattle.class_stages.specs.inside.Stops.{stop_of_atoms, stop_of_split};
 
 use chart_model::{Chart, Cuts};
 use class_split::{Partition, SplitError, split};
-use command_stages::{Quantity, Refusal, Stop};
+use command_stages::{Departure, Quantity, Refusal, Stop};
 use guard_atoms::{AtomError, assumed, atoms_of};
 use lin_form::Bounds;
 use std::alloc::Global;
@@ -17,7 +17,7 @@ fn stop_of_atoms(error: AtomError) -> Stop
     match error {
         AtomError::Coefficient => Stop::Refused(Refusal::Beyond(Quantity::Coefficient)),
         AtomError::TooMany => Stop::Refused(Refusal::Beyond(Quantity::Atoms)),
-        AtomError::Memory => Stop::NoMemory,
+        AtomError::Memory => Stop::Departed(Departure::NoMemory),
     }
 }
 
@@ -27,7 +27,7 @@ fn stop_of_split(name: usize, error: SplitError) -> Stop
     match error {
         SplitError::NoInput(_) => Stop::Refused(Refusal::NoInput { name }),
         SplitError::TooMany => Stop::Refused(Refusal::Beyond(Quantity::Classes)),
-        SplitError::Memory => Stop::NoMemory,
+        SplitError::Memory => Stop::Departed(Departure::NoMemory),
     }
 }
 
@@ -52,7 +52,7 @@ pub fn classes_over(
     };
     let bounds = match Bounds::of(alloc, &chart.signature) {
         Ok(bounds) => bounds,
-        Err(_) => return Err(Stop::NoMemory),
+        Err(_) => return Err(Stop::Departed(Departure::NoMemory)),
     };
     match split(alloc, atoms, bounds, literals) {
         Ok(partition) => Ok(partition),

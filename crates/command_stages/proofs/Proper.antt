@@ -6,10 +6,11 @@ use Rattle.command_stages.specs.declared.stop.Refusal.{Refusal}
 use Rattle.command_stages.specs.declared.stop.Refusal.TheVariants.{TooLong}
 use Rattle.command_stages.specs.declared.stop.Source.{Source}
 use Rattle.command_stages.specs.declared.stop.Source.TheVariants.{Word, Replies}
+use Rattle.command_stages.specs.declared.stop.Departure.TheVariants.{Unread}
 use Rattle.command_stages.specs.declared.stop.Stop.{Stop}
-use Rattle.command_stages.specs.declared.stop.Stop.TheVariants.{NoCommand, Refused, Unread, WriteFault, NoMemory}
+use Rattle.command_stages.specs.declared.stop.Stop.TheVariants.{NoCommand, Refused, Departed}
 use Rattle.command_stages.specs.Report.{word_at}
-use Rattle.command_stages.specs.Stage.{Given, Stage, Then, Is, Unless, TextAt, Reading, Printed, Prints, IsAnswer, IsDetermined, IsProper, IsDecidedBy}
+use Rattle.command_stages.specs.Stage.{Given, Stage, Then, Is, Unless, Memoryless, TextAt, Reading, Printed, Prints, IsAnswer, IsDetermined, IsProper, IsDecidedBy}
 use Rattle.command_stages.specs.Serve.{Answer, answer, Answering, Whole, IsOne}
 
 ok_same : {A E : Type 0} (a b : A) → (let o : Result A E = Ok a in o) ≡ Ok b → a ≡ b
@@ -42,7 +43,7 @@ one_then {A} {B} reads first next one two given told s t (Err x) (Err y) d e (in
     let P : A → Type 0 = λ z. next z given k (Err y) in
     (two a).one given told g k (Err x) (Err y) d e m (subst P (same_value reads first one given told f h a b p q) n)
 
-only_then : {A B : Type 0} (reads : Source → Type 0) (first : Stage A) (next : A → Stage B) → IsProper reads first → ((a : A) → IsProper reads (next a)) → (given : Given) (s : List Source) (source : Source) → Then first next given s (Err (Unread source)) → reads source
+only_then : {A B : Type 0} (reads : Source → Type 0) (first : Stage A) (next : A → Stage B) → IsProper reads first → ((a : A) → IsProper reads (next a)) → (given : Given) (s : List Source) (source : Source) → Then first next given s (Err (Departed (Unread source))) → reads source
 unfolding Then
 only_then reads first next one two given s source (inl p) = one.only given s source p
 only_then reads first next one two given s source (inr (a, f, g, j, p, m)) = (two a).only given g source m
@@ -56,7 +57,7 @@ one_is P same given s t (Ok a) (Ok b) d e p q = ap Ok (same a b p.1 q.1)
 one_is P same given s t (Ok a) (Err y) d e p q = let Q : Stop → Type 0 = λ z. IsAnswer z in absurd (subst Q q.1 e)
 one_is P same given s t (Err x) y d e p q = let Q : Stop → Type 0 = λ z. IsAnswer z in absurd (subst Q p.1 d)
 
-only_is : {A : Type 0} (P : A → Type 0) (given : Given) (s : List Source) (source : Source) → Is P given s (Err (Unread source)) → ⊥
+only_is : {A : Type 0} (P : A → Type 0) (given : Given) (s : List Source) (source : Source) → Is P given s (Err (Departed (Unread source))) → ⊥
 unfolding Is
 only_is P given s source h = let e = h.1 in cc
 
@@ -76,9 +77,7 @@ unfolding Unless
 limit_of met refusal given s (Ok u) d p = p.1
 limit_of met refusal given s (Err (Refused other)) d p = (p.1, ap Refused p.2)
 limit_of met refusal given s (Err NoCommand) d p = let e = p.1 in absurd (cc)
-limit_of met refusal given s (Err (Unread source)) d p = absurd d
-limit_of met refusal given s (Err WriteFault) d p = absurd d
-limit_of met refusal given s (Err NoMemory) d p = absurd d
+limit_of met refusal given s (Err (Departed departure)) d p = absurd d
 
 one_limit : (met : Type 0) (refusal : Refusal) (x y : Result (Unit {0}) Stop) → IsLimit met refusal x → IsLimit met refusal y → x ≡ y
 one_limit met refusal (Ok a) (Ok b) p q = refl
@@ -86,12 +85,16 @@ one_limit met refusal (Ok a) (Err y) p q = absurd (p q.0)
 one_limit met refusal (Err x) (Ok b) p q = absurd (q p.0)
 one_limit met refusal (Err x) (Err y) p q = ap Err (p.1 ∙ sym q.1)
 
-only_unless : (met : Type 0) (refusal : Refusal) (given : Given) (s : List Source) (source : Source) → Unless met refusal given s (Err (Unread source)) → ⊥
+only_unless : (met : Type 0) (refusal : Refusal) (given : Given) (s : List Source) (source : Source) → Unless met refusal given s (Err (Departed (Unread source))) → ⊥
 unfolding Unless
 only_unless met refusal given s source h = let e = h.1 in cc
 
 pub proper_unless : {reads : Source → Type 0} (met : Type 0) (refusal : Refusal) → IsProper reads (Unless met refusal)
 proper_unless met refusal = record { one = λ given told s t x y d e p q. one_limit met refusal x y (limit_of met refusal given s x d p) (limit_of met refusal given t y e q); only = λ given s source h. absurd (only_unless met refusal given s source h) }
+
+pub proper_so : {A : Type 0} {reads : Source → Type 0} (stage : Stage A) → IsProper reads stage → IsProper reads (Memoryless stage)
+unfolding Memoryless
+proper_so stage proper = record { one = λ given told s t x y d e p q. proper.one given told s t x y d e p.0 q.0; only = λ given s source h. proper.only given s source h.0 }
 
 some_same : {X : Type 0} (a b : X) → Some a ≡ Some b → a ≡ b
 some_same a b e = cc
@@ -116,10 +119,8 @@ text_of : (number most : ℕ) (given : Given) (s : List Source) (x : Result (Lis
 unfolding TextAt
 text_of number most given s (Ok bytes) d p = (p.1, p.2)
 text_of number most given s (Err (Refused refusal)) d p = (ap Refused p.1, p.2)
-text_of number most given s (Err (Unread source)) d p = absurd d
 text_of number most given s (Err NoCommand) d p = let e = p.1 in absurd (cc)
-text_of number most given s (Err WriteFault) d p = absurd d
-text_of number most given s (Err NoMemory) d p = absurd d
+text_of number most given s (Err (Departed departure)) d p = absurd d
 
 one_text : (number most : ℕ) (given : Given) → IsSome given.held → (x y : Result (List ℕ) Stop) → IsTextOf number most given x → IsTextOf number most given y → x ≡ y
 one_text number most given told (Ok a) (Ok b) p q = ap Ok (holds_one given.held (word_at given.words number) a b told p.0 q.0)
@@ -127,7 +128,7 @@ one_text number most given told (Ok a) (Err y) p q = absurd (holds_most given.he
 one_text number most given told (Err x) (Ok b) p q = absurd (holds_most given.held (word_at given.words number) b most told q.0 q.1 p.1)
 one_text number most given told (Err x) (Err y) p q = ap Err (p.0 ∙ sym q.0)
 
-only_text : (number most : ℕ) (given : Given) (s : List Source) (source : Source) → TextAt number most given s (Err (Unread source)) → source ≡ Word number
+only_text : (number most : ℕ) (given : Given) (s : List Source) (source : Source) → TextAt number most given s (Err (Departed (Unread source))) → source ≡ Word number
 unfolding TextAt
 only_text number most given s source h = h.1
 
@@ -145,9 +146,7 @@ told : {A C : Type 0} (refusal : ℕ → C → Refusal) (reads : A → Type 0) (
 unfolding Reading
 told refusal reads refuses given s (Refused other) d h = record { line = h.1; what = h.2; refused = h.4; is = ap Refused h.3 }
 told refusal reads refuses given s NoCommand d h = let e = h.1 in absurd (cc)
-told refusal reads refuses given s (Unread source) d h = absurd d
-told refusal reads refuses given s WriteFault d h = absurd d
-told refusal reads refuses given s NoMemory d h = absurd d
+told refusal reads refuses given s (Departed departure) d h = absurd d
 
 reads_of : {A C : Type 0} (refusal : ℕ → C → Refusal) (reads : A → Type 0) (refuses : ℕ → C → Type 0) (given : Given) (s : List Source) (a : A) → Reading refusal reads refuses given s (Ok a) → reads a
 unfolding Reading
@@ -163,7 +162,7 @@ one_reading refusal reads refuses decided given s t (Err x) (Err y) d e p q =
     let w = decided.one_refusal u.line v.line u.what v.what u.refused v.refused in
     ap Err (u.is ∙ (λ i. Refused (refusal (w.0 i) (w.1 i))) ∙ sym v.is)
 
-only_reading : {A C : Type 0} (refusal : ℕ → C → Refusal) (reads : A → Type 0) (refuses : ℕ → C → Type 0) (given : Given) (s : List Source) (source : Source) → Reading refusal reads refuses given s (Err (Unread source)) → ⊥
+only_reading : {A C : Type 0} (refusal : ℕ → C → Refusal) (reads : A → Type 0) (refuses : ℕ → C → Type 0) (given : Given) (s : List Source) (source : Source) → Reading refusal reads refuses given s (Err (Departed (Unread source))) → ⊥
 unfolding Reading
 only_reading refusal reads refuses given s source h = let e = h.1 in cc
 

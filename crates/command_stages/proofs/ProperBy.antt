@@ -2,8 +2,9 @@
 use Rattle.std.proofs.Common.{◌≡◌, ℕ, List, Result, Ok, Err, refl, sym, ◌∙◌, ap, subst, inl, inr}
 use Rattle.std.specs.Prelude.{IsSome}
 use Rattle.command_stages.specs.declared.stop.Source.{Source}
+use Rattle.command_stages.specs.declared.stop.Departure.TheVariants.{Unread}
 use Rattle.command_stages.specs.declared.stop.Stop.{Stop}
-use Rattle.command_stages.specs.declared.stop.Stop.TheVariants.{Unread, NoMemory}
+use Rattle.command_stages.specs.declared.stop.Stop.TheVariants.{Departed}
 use Rattle.command_stages.specs.Stage.{Given, Stage, Then, Is, IsAnswer, IsDetermined, IsProper}
 use Rattle.command_stages.proofs.Proper.{same_value}
 
@@ -17,7 +18,7 @@ AreLike Like (Err x) (Err y) = x ≡ y
 -- a stage comes to values that are like one another, or to one refusal
 pub record IsProperBy {A : Type 0} (may_read : Source → Type 0) (Like : A → A → Type 0) (stage : Stage A) : Type 0 where
   pub one : (given : Given) → IsSome given.held → (s t : List Source) (x y : Result A Stop) → IsDetermined x → IsDetermined y → stage given s x → stage given t y → AreLike Like x y
-  pub only : (given : Given) (sources : List Source) (source : Source) → stage given sources (Err (Unread source)) → may_read source
+  pub only : (given : Given) (sources : List Source) (source : Source) → stage given sources (Err (Departed (Unread source))) → may_read source
 
 -- what comes next does not tell these values apart
 abbrev pub IsMoved : {A B : Type 0} → (A → A → Type 0) → (A → Stage B) → Type 0
@@ -29,7 +30,7 @@ one_is Like P like given s t (Ok a) (Ok b) d e p q = like a b p.1 q.1
 one_is Like P like given s t (Ok a) (Err y) d e p q = let Q : Stop → Type 0 = λ z. IsAnswer z in absurd (subst Q q.1 e)
 one_is Like P like given s t (Err x) y d e p q = let Q : Stop → Type 0 = λ z. IsAnswer z in absurd (subst Q p.1 d)
 
-only_is : {A : Type 0} (P : A → Type 0) (given : Given) (s : List Source) (source : Source) → Is P given s (Err (Unread source)) → ⊥
+only_is : {A : Type 0} (P : A → Type 0) (given : Given) (s : List Source) (source : Source) → Is P given s (Err (Departed (Unread source))) → ⊥
 unfolding Is
 only_is P given s source h = let e = h.1 in cc
 
@@ -59,7 +60,7 @@ one_after {A} {B} reads Like first next one two given told s t (Err x) (Err y) d
     let P : A → Type 0 = λ z. next z given k (Err y) in
     (two a).one given told g k (Err x) (Err y) d e m (subst P (same_value reads first one given told f h a b p q) n)
 
-only_after : {A B : Type 0} (reads : Source → Type 0) (Like : B → B → Type 0) (first : Stage A) (next : A → Stage B) → IsProper reads first → ((a : A) → IsProperBy reads Like (next a)) → (given : Given) (s : List Source) (source : Source) → Then first next given s (Err (Unread source)) → reads source
+only_after : {A B : Type 0} (reads : Source → Type 0) (Like : B → B → Type 0) (first : Stage A) (next : A → Stage B) → IsProper reads first → ((a : A) → IsProperBy reads Like (next a)) → (given : Given) (s : List Source) (source : Source) → Then first next given s (Err (Departed (Unread source))) → reads source
 unfolding Then
 only_after reads Like first next one two given s source (inl p) = one.only given s source p
 only_after reads Like first next one two given s source (inr (a, f, g, j, p, m)) = (two a).only given g source m
@@ -84,7 +85,7 @@ one_beyond {A} {B} reads Like first next one two moved given told s t (Err x) (E
 one_beyond {A} {B} reads Like first next one two moved given told s t (Err x) (Err y) d e (inr (a, f, g, j, p, m)) (inr (b, h, k, l, q, n)) =
     (two a).one given told g k (Err x) (Err y) d e m (moved a b (one.one given told f h (Ok a) (Ok b) tt tt p q) given k (Err y) n)
 
-only_beyond : {A B : Type 0} (reads : Source → Type 0) (Like : A → A → Type 0) (first : Stage A) (next : A → Stage B) → IsProperBy reads Like first → ((a : A) → IsProper reads (next a)) → (given : Given) (s : List Source) (source : Source) → Then first next given s (Err (Unread source)) → reads source
+only_beyond : {A B : Type 0} (reads : Source → Type 0) (Like : A → A → Type 0) (first : Stage A) (next : A → Stage B) → IsProperBy reads Like first → ((a : A) → IsProper reads (next a)) → (given : Given) (s : List Source) (source : Source) → Then first next given s (Err (Departed (Unread source))) → reads source
 unfolding Then
 only_beyond reads Like first next one two given s source (inl p) = one.only given s source p
 only_beyond reads Like first next one two given s source (inr (a, f, g, j, p, m)) = (two a).only given g source m
@@ -99,3 +100,10 @@ unfolding Then
 moved_then Like next last moved a b like given s (Ok c) (x, u, v, e, p, q) = (x, u, v, e, moved a b like given u (Ok x) p, q)
 moved_then Like next last moved a b like given s (Err y) (inl p) = inl (moved a b like given s (Err y) p)
 moved_then Like next last moved a b like given s (Err y) (inr (x, u, v, e, p, q)) = inr (x, u, v, e, moved a b like given u (Ok x) p, q)
+
+-- two stages of which neither tells these values apart
+pub moved_both : {A B C : Type 0} (Like : A → A → Type 0) (next : A → Stage B) (last : A → B → Stage C) → IsMoved Like next → ((b : B) → IsMoved Like (λ a. last a b)) → IsMoved Like (λ a. Then (next a) (last a))
+unfolding Then
+moved_both Like next last moved later a b like given s (Ok c) (x, u, v, e, p, q) = (x, u, v, e, moved a b like given u (Ok x) p, later x a b like given v (Ok c) q)
+moved_both Like next last moved later a b like given s (Err y) (inl p) = inl (moved a b like given s (Err y) p)
+moved_both Like next last moved later a b like given s (Err y) (inr (x, u, v, e, p, q)) = inr (x, u, v, e, moved a b like given u (Ok x) p, later x a b like given v (Err y) q)

@@ -8,10 +8,12 @@ use Rattle.test_world.proofs.Growing.{grows_by_nothing, rose_before}
 use Rattle.command_stages.specs.declared.stop.Refusal.{Refusal}
 use Rattle.command_stages.specs.declared.stop.Refusal.TheVariants.{Fault}
 use Rattle.command_stages.specs.declared.stop.Source.{Source}
+use Rattle.command_stages.specs.declared.stop.Departure.{Departure}
+use Rattle.command_stages.specs.declared.stop.Departure.TheVariants.{NoMemory, Unread, WriteFault}
 use Rattle.command_stages.specs.declared.stop.Stop.{Stop}
-use Rattle.command_stages.specs.declared.stop.Stop.TheVariants.{NoCommand, Refused, Unread, WriteFault, NoMemory}
-use Rattle.command_stages.specs.Report.{status_of_refusal, status_of_stop, status_of, err_line, names_of}
-use Rattle.command_stages.specs.Stage.{Stage, Printed, Stopped, Comes, IsRead, IsNoRead, Made, IsAnswer, IsDetermined}
+use Rattle.command_stages.specs.declared.stop.Stop.TheVariants.{NoCommand, Refused, Departed}
+use Rattle.command_stages.specs.Report.{status_of_refusal, status_of_departure, status_of_stop, status_of, err_line, names_of}
+use Rattle.command_stages.specs.Stage.{Stage, Printed, Stopped, Comes, IsRead, IsNoRead, Made, IsDetermined}
 use Rattle.command_stages.specs.Finish.{Finishes, IsCutShort}
 use Rattle.command_stages.specs.Serve.{Answer, Answering, answer, Whole, Run, Call, given_of, IsFor, IsPut, HasDeparted, Ends, HoldsAllWanted, IsKnown, IsKnownTo, IsRun, IsReported, IsCarriedOut, Departs, IsAnswerOf, IsCarried, IsAnswered, IsServed, IsOne}
 
@@ -28,17 +30,17 @@ Took run sources = Visits run.shelf run.shelf_after (names_of run.words sources)
 -- a stage that stopped
 stopped_ends : (stage : Stage Printed) (command : Type 0) (run : Run) (sources : List Source) (stop : Stop) → command → run.out_after ≡ run.out → Took run sources → Stopped stop (stage (given_of run) sources (Err stop)) run.shelf.faults run.shelf_after.faults → Ends (Whole stage) command run (Err stop)
 stopped_ends stage command run sources NoCommand is same took h = absurd h
-stopped_ends stage command run sources (Refused refusal) is same took h = inl (tt, [], (sources, (refl, h), took), (untouched run.out run.out_after same, λ e. same))
-stopped_ends stage command run sources (Unread source) is same took h = inr (h.1, [], (sources, (refl, h.0), took), untouched_part run.out run.out_after same, λ e. same)
-stopped_ends stage command run sources WriteFault is same took h = absurd h
-stopped_ends stage command run sources NoMemory is same took h = inr (is, (sources, (refl, h), took), same)
+stopped_ends stage command run sources (Refused refusal) is same took h = ([], (sources, (refl, h), took), (untouched run.out run.out_after same, λ e. same))
+stopped_ends stage command run sources (Departed NoMemory) is same took h = (is, (sources, (refl, h), took), same)
+stopped_ends stage command run sources (Departed (Unread source)) is same took h = (h.1, [], (sources, (refl, h.0), took), untouched_part run.out run.out_after same, λ e. same)
+stopped_ends stage command run sources (Departed WriteFault) is same took h = absurd h
 
 cut_ends : (stage : Stage Printed) (command : Type 0) (run : Run) (sources : List Source) (p : Printed) (stop : Stop) → Took run sources → stage (given_of run) sources (Ok p) → IsCutShort run.out run.out_after p.text stop → Ends (Whole stage) command run (Err stop)
 cut_ends stage command run sources p NoCommand took is h = absurd h
 cut_ends stage command run sources p (Refused refusal) took is h = absurd h
-cut_ends stage command run sources p (Unread source) took is h = absurd h
-cut_ends stage command run sources p WriteFault took is h = inr (h.2, answer p.text (Ok p.passes), (sources, is, took), h.0)
-cut_ends stage command run sources p NoMemory took is h = absurd h
+cut_ends stage command run sources p (Departed NoMemory) took is h = absurd h
+cut_ends stage command run sources p (Departed (Unread source)) took is h = absurd h
+cut_ends stage command run sources p (Departed WriteFault) took is h = (h.2, answer p.text (Ok p.passes), (sources, is, took), h.0)
 
 run_ends : (stage : Stage Printed) (command : Type 0) (run : Run) (sources : List Source) (made : Result Printed Stop) (r : Result Bool Stop) → command → Took run sources → Comes stage (given_of run) sources run.shelf.faults run.shelf_after.faults made → Finishes (λ p. p) made run.out run.out_after r → Ends (Whole stage) command run r
 run_ends stage command run sources (Ok p) (Ok passes) is took h f =
@@ -52,9 +54,7 @@ run_ends stage command run sources (Err stop) r is took h f =
 stopped_known : (command : Type 0) (stop : Stop) (T : Type 0) (before after : ℕ) → command → Stopped stop T before after → IsKnownTo command stop
 stopped_known command NoCommand T before after is h = absurd h
 stopped_known command (Refused refusal) T before after is h = is
-stopped_known command (Unread source) T before after is h = is
-stopped_known command WriteFault T before after is h = is
-stopped_known command NoMemory T before after is h = is
+stopped_known command (Departed departure) T before after is h = is
 
 -- a text that is cut short is so by a failed write
 record IsWriteFault (command : Type 0) (before after : SinkState) (stop : Stop) : Type 0 where
@@ -65,9 +65,9 @@ record IsWriteFault (command : Type 0) (before after : SinkState) (stop : Stop) 
 cut : (command : Type 0) (before after : SinkState) (text : List ℕ) (stop : Stop) → IsCutShort before after text stop → IsWriteFault command before after stop
 cut command before after text NoCommand h = absurd h
 cut command before after text (Refused refusal) h = absurd h
-cut command before after text (Unread source) h = absurd h
-cut command before after text WriteFault h = record { known = λ is. is; later = h.1; read = tt }
-cut command before after text NoMemory h = absurd h
+cut command before after text (Departed NoMemory) h = absurd h
+cut command before after text (Departed (Unread source)) h = absurd h
+cut command before after text (Departed WriteFault) h = record { known = λ is. is; later = h.1; read = tt }
 
 run_known : (stage : Stage Printed) (command : Type 0) (run : Run) (sources : List Source) (made : Result Printed Stop) (r : Result Bool Stop) → command → Comes stage (given_of run) sources run.shelf.faults run.shelf_after.faults made → Finishes (λ p. p) made run.out run.out_after r → IsKnown command r
 run_known stage command run sources (Ok p) (Ok passes) is h f = is
@@ -120,16 +120,7 @@ no_two : (refusal : Refusal) → status_of_refusal refusal ≡ 2 → ⊥
 no_two (Fault name line kind) e = cc
 no_two other e = cc
 
-answer_five : (stop : Stop) → IsAnswer stop → status_of_stop stop ≡ 5 → ⊥
-answer_five NoCommand is e = cc
-answer_five (Refused refusal) is e = no_five refusal e
-answer_five (Unread source) is e = is
-answer_five WriteFault is e = is
-answer_five NoMemory is e = is
-
-departed : (answers : Answering) (command : Type 0) (call : Call) (stop : Stop) → HasDeparted answers command call.run stop → call.status ≡ status_of_stop stop → IsReported call (Err stop) → (IsSound call.run.shelf → HoldsAllWanted answers call.run → IsNoRead stop) → IsAnswered answers command call
-departed answers command call NoCommand cause status line sound = absurd cause
-departed answers command call (Refused refusal) cause status line sound = absurd cause
+departed : (answers : Answering) (command : Type 0) (call : Call) (why : Departure) → HasDeparted answers command call.run why → call.status ≡ status_of_departure why → IsReported call (Err (Departed why)) → (IsSound call.run.shelf → HoldsAllWanted answers call.run → IsNoRead (Departed why)) → IsAnswered answers command call
 departed answers command call (Unread source) cause status line sound =
     let d : Departs answers command call = record { why = Unread source; cause = cause; status = status; line = line } in
     record {
@@ -163,18 +154,22 @@ answered answers command call (Ok true) law run status line =
     carried answers command call law (record { one = answer run.ends.0 (Ok true); determined = tt; is_for = run.ends.1; out = record { status = status; put = run.ends.2; line = line } }) (other_status 0 call.status status (λ e. cc))
 answered answers command call (Ok false) law run status line =
     carried answers command call law (record { one = answer run.ends.0 (Ok false); determined = tt; is_for = run.ends.1; out = record { status = status; put = run.ends.2; line = line } }) (other_status 1 call.status status (λ e. cc))
-answered answers command call (Err stop) law run status line =
-    elim run.ends [
-      | inl h ↦ carried answers command call law (record { one = answer h.1 (Err stop); determined = h.0; is_for = h.2; out = record { status = status; put = h.3; line = line } }) (other_status (status_of_stop stop) call.status status (answer_five stop h.0))
-      | inr h ↦ departed answers command call stop h status line run.sound
-    ]
+answered answers command call (Err NoCommand) law run status line =
+    let h = run.ends in
+    carried answers command call law (record { one = answer h.0 (Err NoCommand); determined = tt; is_for = h.1; out = record { status = status; put = h.2; line = line } }) (other_status 2 call.status status (λ e. cc))
+answered answers command call (Err (Refused refusal)) law run status line =
+    let h = run.ends in
+    carried answers command call law (record { one = answer h.0 (Err (Refused refusal)); determined = tt; is_for = h.1; out = record { status = status; put = h.2; line = line } }) (other_status (status_of_refusal refusal) call.status status (no_five refusal))
+answered answers command call (Err (Departed why)) law run status line = departed answers command call why run.ends status line run.sound
+
+no_departure_two : (departure : Departure) → status_of_departure departure ≡ 2 → ⊥
+no_departure_two NoMemory e = cc
+no_departure_two other e = cc
 
 two_known : (command : Type 0) (stop : Stop) → IsKnownTo command stop → (status_of_stop stop ≡ 2) ↔ (command → ⊥)
 two_known command NoCommand is = (λ e. is, λ no. refl)
 two_known command (Refused refusal) is = (λ e. absurd (no_two refusal e), λ no. absurd (no is))
-two_known command (Unread source) is = (λ e. cc, λ no. absurd (no is))
-two_known command WriteFault is = (λ e. cc, λ no. absurd (no is))
-two_known command NoMemory is = (λ e. cc, λ no. absurd (no is))
+two_known command (Departed departure) is = (λ e. absurd (no_departure_two departure e), λ no. absurd (no is))
 
 known_two : (command : Type 0) (r : Result Bool Stop) → IsKnown command r → (status_of r ≡ 2) ↔ (command → ⊥)
 known_two command (Ok true) is = (λ e. cc, λ no. absurd (no is))
@@ -205,9 +200,8 @@ no_zero_refusal other e = cc
 pub no_zero : (stop : Stop) → status_of_stop stop ≡ 0 → ⊥
 no_zero NoCommand e = cc
 no_zero (Refused refusal) e = no_zero_refusal refusal e
-no_zero (Unread source) e = cc
-no_zero WriteFault e = cc
-no_zero NoMemory e = cc
+no_zero (Departed NoMemory) e = cc
+no_zero (Departed other) e = cc
 
 -- a call that ends with a line on `err`
 pub served_stop : {T E : Type 0} {answers : Answering} {command : Type 0} {call : Call} {stop : Stop} {r : Result T E} → IsOne answers → IsRun answers command call.run (Err stop) → call.status ≡ status_of_stop stop → Puts call.err call.err_after (err_line call.run.words stop) r → IsServed answers command call

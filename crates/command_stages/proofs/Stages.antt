@@ -1,5 +1,5 @@
 -- One stage after another.
-use Rattle.std.proofs.Common.{◌≡◌, ℕ, ◌≤◌, List, [], ◌∷◌, ◌++◌, map, Option, Some, None, Result, Ok, Err, refl, sym, ◌∙◌, ap, subst, arith, ◌⊎◌, inl, inr}
+use Rattle.std.proofs.Common.{◌≡◌, ◌≢◌, ℕ, ◌≤◌, List, [], ◌∷◌, ◌++◌, map, Option, Some, None, Result, Ok, Err, refl, sym, ◌∙◌, ap, subst, arith, ◌⊎◌, inl, inr}
 use Rattle.std.specs.Prelude.{length}
 use Rattle.std.proofs.lemmas.List.{map-append}
 use Rattle.test_world.specs.Count.{Rose}
@@ -18,16 +18,17 @@ use Rattle.command_stages.specs.Text.{stop_of_load, stop_of_chart}
 use Rattle.command_stages.specs.declared.stop.Source.TheVariants.{Word}
 use Rattle.command_stages.specs.declared.stop.Refusal.{Refusal}
 use Rattle.command_stages.specs.declared.stop.Source.{Source}
+use Rattle.command_stages.specs.declared.stop.Departure.TheVariants.{NoMemory, Unread, WriteFault}
 use Rattle.command_stages.specs.declared.stop.Stop.{Stop}
-use Rattle.command_stages.specs.declared.stop.Stop.TheVariants.{NoCommand, Refused, Unread, WriteFault, NoMemory}
-use Rattle.command_stages.specs.Stage.{Given, Stage, Then, Is, TextAt, Reading, Unless, Stopped, Comes, IsNoRead, IsRead, HoldsWanted, at_shelf, text_refusal, Made}
+use Rattle.command_stages.specs.declared.stop.Stop.TheVariants.{NoCommand, Refused, Departed}
+use Rattle.command_stages.specs.Stage.{Given, Stage, Then, Is, Memoryless, TextAt, Reading, Unless, Stopped, Comes, IsNoRead, IsRead, HoldsWanted, at_shelf, text_refusal, Made}
 
 stopped_map : (stop : Stop) (S T : Type 0) (before between after : ℕ) → before ≤ between → (S → T) → Stopped stop S between after → Stopped stop T before after
 stopped_map NoCommand S T before between after later f h = h
 stopped_map (Refused refusal) S T before between after later f h = f h
-stopped_map (Unread source) S T before between after later f h = (f h.0, rose_before before between after later h.1)
-stopped_map WriteFault S T before between after later f h = h
-stopped_map NoMemory S T before between after later f h = f h
+stopped_map (Departed NoMemory) S T before between after later f h = f h
+stopped_map (Departed (Unread source)) S T before between after later f h = (f h.0, rose_before before between after later h.1)
+stopped_map (Departed WriteFault) S T before between after later f h = h
 
 comes_then : {A B : Type 0} (first : Stage A) (next : A → Stage B) (given : Given) (front rest : List Source) (a : A) (before between after : ℕ) (r : Result B Stop) → first given front (Ok a) → before ≤ between → Comes (next a) given rest between after r → Comes (Then first next) given (front ++ rest) before after r
 unfolding Then
@@ -88,9 +89,9 @@ unfolding Is
 made_is P {words} {shelf} {a} h = untouched {stage = Is P} words shelf (Ok a) (refl, h) tt
 
 -- no memory for a value
-pub made_nothing : {A : Type 0} (P : A → Type 0) {words : List (List ℕ)} {shelf : ShelfState} → Made (Is P) words shelf shelf (Err NoMemory)
+pub made_nothing : {A : Type 0} (P : A → Type 0) {words : List (List ℕ)} {shelf : ShelfState} → Made (Is P) words shelf shelf (Err (Departed NoMemory))
 unfolding Is
-made_nothing P {words} {shelf} = untouched {stage = Is P} words shelf (Err NoMemory) (refl, refl) tt
+made_nothing P {words} {shelf} = untouched {stage = Is P} words shelf (Err (Departed NoMemory)) (refl, refl) tt
 
 pub made_unless : (met : Type 0) (refusal : Refusal) {words : List (List ℕ)} {shelf : ShelfState} → (met → ⊥) → Made (Unless met refusal) words shelf shelf (Ok tt)
 unfolding Unless
@@ -101,9 +102,28 @@ unfolding Unless
 made_refusal met refusal {words} {shelf} h = untouched {stage = Unless met refusal} words shelf (Err (Refused refusal)) (refl, h, refl) tt
 
 -- no memory to see whether this holds
-pub made_unknown : (met : Type 0) (refusal : Refusal) {words : List (List ℕ)} {shelf : ShelfState} → Made (Unless met refusal) words shelf shelf (Err NoMemory)
+pub made_unknown : (met : Type 0) (refusal : Refusal) {words : List (List ℕ)} {shelf : ShelfState} → Made (Unless met refusal) words shelf shelf (Err (Departed NoMemory))
 unfolding Unless
-made_unknown met refusal {words} {shelf} = untouched {stage = Unless met refusal} words shelf (Err NoMemory) (refl, refl) tt
+made_unknown met refusal {words} {shelf} = untouched {stage = Unless met refusal} words shelf (Err (Departed NoMemory)) (refl, refl) tt
+
+wanted_so : {A : Type 0} (stage : Stage A) (given : Given) → HoldsWanted (Memoryless stage) given → HoldsWanted stage given
+unfolding Memoryless
+wanted_so stage given wanted source sources h = wanted source sources (h, λ e. cc)
+
+comes_so : {A : Type 0} (stage : Stage A) (given : Given) (sources : List Source) (before after : ℕ) (r : Result A Stop) → r ≢ Err (Departed NoMemory) → Comes stage given sources before after r → Comes (Memoryless stage) given sources before after r
+unfolding Memoryless
+comes_so stage given sources before after (Ok a) has h = (h, has)
+comes_so stage given sources before after (Err stop) has h = stopped_map stop (stage given sources (Err stop)) (stage given sources (Err stop) × (Err stop ≢ Err (Departed NoMemory))) before before after (omega arith) (λ k. (k, has)) h
+
+-- what a stage function came to that takes no memory
+pub made_so : {A : Type 0} (stage : Stage A) {words : List (List ℕ)} {before after : ShelfState} {r : Result A Stop} → r ≢ Err (Departed NoMemory) → Made stage words before after r → Made (Memoryless stage) words before after r
+made_so stage {words} {before} {after} {r} has one = record {
+  sources = one.sources;
+  comes = comes_so stage (at_shelf words before) one.sources before.faults after.faults r has one.comes;
+  visits = one.visits;
+  keeps = one.keeps;
+  sound = λ s wanted. one.sound s (wanted_so stage (at_shelf words before) wanted);
+}
 
 -- a stage that stopped, at the exit of a `?`
 pub made_exit : {A B : Type 0} (first : Stage A) (next : A → Stage B) {words : List (List ℕ)} {before after : ShelfState} {stop : Stop} {r : Result B Stop} → Made first words before after (Err stop) → (x : Stop) × (r ≡ Err x) × (x ≡ stop) → Made (Then first next) words before after r
@@ -166,9 +186,9 @@ made_refused {A} refusal reads refuses {text} {bytes} {words} {shelf} line met s
     untouched {stage = Reading {A = A} refusal (reads text) (refuses text)} words shelf (Err (Refused (refusal line met))) (refl, line, met, refl, subst P same h) tt
 
 -- no memory to read a text
-pub made_unread : {A C : Type 0} (refusal : ℕ → C → Refusal) (reads : A → Type 0) (refuses : ℕ → C → Type 0) {words : List (List ℕ)} {shelf : ShelfState} → Made (Reading refusal reads refuses) words shelf shelf (Err NoMemory)
+pub made_unread : {A C : Type 0} (refusal : ℕ → C → Refusal) (reads : A → Type 0) (refuses : ℕ → C → Type 0) {words : List (List ℕ)} {shelf : ShelfState} → Made (Reading refusal reads refuses) words shelf shelf (Err (Departed NoMemory))
 unfolding Reading
-made_unread {A} refusal reads refuses {words} {shelf} = untouched {stage = Reading {A = A} refusal reads refuses} words shelf (Err NoMemory) (refl, refl) tt
+made_unread {A} refusal reads refuses {words} {shelf} = untouched {stage = Reading {A = A} refusal reads refuses} words shelf (Err (Departed NoMemory)) (refl, refl) tt
 
 -- a text that has no reading
 pub made_not : {A : Type 0} (number : ℕ) (reads : List ℕ → A → Type 0) (refuses : List ℕ → ℕ → text_error.Refusal → Type 0) {text bytes : List ℕ} {words : List (List ℕ)} {shelf : ShelfState} (e : ChartError) → bytes ≡ text → IsRefusedBy (refuses bytes) e → Made (Reading (text_refusal number) (reads text) (refuses text)) words shelf shelf (Err (stop_of_chart number e))

@@ -2,13 +2,14 @@
 use Rattle.std.specs.Prelude.{◌≡◌, ℕ, Bool, ◌≤◌, List, Result, Ok, Err}
 use Rattle.test_world.specs.Count.{Rose}
 use Rattle.test_world.specs.Sink.{SinkState, Grows, GrowsByPrefix}
+use Rattle.command_stages.specs.declared.stop.Departure.TheVariants.{WriteFault}
 use Rattle.command_stages.specs.declared.stop.Stop.{Stop}
-use Rattle.command_stages.specs.declared.stop.Stop.TheVariants.{WriteFault}
+use Rattle.command_stages.specs.declared.stop.Stop.TheVariants.{Departed}
 use Rattle.command_stages.specs.Stage.{Printed}
 
 -- a write failed, and a prefix of the text was taken
 abbrev pub IsCutShort : SinkState → SinkState → List ℕ → Stop → Type 0
-IsCutShort before after text WriteFault =
+IsCutShort before after text (Departed WriteFault) =
     GrowsByPrefix before after text × (before.faults ≤ after.faults) × Rose before.faults after.faults
 IsCutShort before after text other = ⊥
 

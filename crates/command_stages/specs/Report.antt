@@ -18,8 +18,10 @@ use Rattle.command_stages.specs.declared.stop.Quantity.{Quantity}
 use Rattle.command_stages.specs.declared.stop.Quantity.TheVariants as quantity
 use Rattle.command_stages.specs.declared.stop.Source.{Source}
 use Rattle.command_stages.specs.declared.stop.Source.TheVariants.{Word, Replies}
+use Rattle.command_stages.specs.declared.stop.Departure.{Departure}
+use Rattle.command_stages.specs.declared.stop.Departure.TheVariants.{NoMemory, Unread, WriteFault}
 use Rattle.command_stages.specs.declared.stop.Stop.{Stop}
-use Rattle.command_stages.specs.declared.stop.Stop.TheVariants.{NoCommand, Refused, Unread, WriteFault, NoMemory}
+use Rattle.command_stages.specs.declared.stop.Stop.TheVariants.{NoCommand, Refused, Departed}
 
 -- the name of what is read from
 abbrev pub name_of : List (List ℕ) → Source → List ℕ
@@ -38,13 +40,17 @@ status_of_refusal (Unfit name p) = 3
 status_of_refusal (Beyond q) = 4
 status_of_refusal (BoundBelow bound states) = 4
 
+-- the status of a departure
+abbrev pub status_of_departure : Departure → ℕ
+status_of_departure NoMemory = 6
+status_of_departure (Unread source) = 5
+status_of_departure WriteFault = 5
+
 -- the status of a call that stops so
 abbrev pub status_of_stop : Stop → ℕ
 status_of_stop NoCommand = 2
 status_of_stop (Refused refusal) = status_of_refusal refusal
-status_of_stop (Unread source) = 5
-status_of_stop WriteFault = 5
-status_of_stop NoMemory = 6
+status_of_stop (Departed departure) = status_of_departure departure
 
 -- the status of a call that ends so
 abbrev pub status_of : Result Bool Stop → ℕ
@@ -54,7 +60,7 @@ status_of (Err stop) = status_of_stop stop
 
 -- what the line on `err` names
 abbrev pub source_of : Stop → Option Source
-source_of (Unread source) = Some source
+source_of (Departed (Unread source)) = Some source
 source_of (Refused (Fault name line k)) = Some (Word name)
 source_of (Refused (Limit name line w)) = Some (Word name)
 source_of (Refused (SuiteFault name line k)) = Some (Word name)
@@ -154,8 +160,14 @@ before_of (Refused (SuiteFault name line k)) = codes ": "
 before_of (Refused (NoInput name)) = codes ": "
 before_of (Refused (Unfit name p)) = codes ": unfit "
 before_of (Refused (Beyond q)) = codes "limit "
-before_of (Unread source) = codes ": "
+before_of (Departed (Unread source)) = codes ": "
 before_of other = []
+
+-- the word for a departure
+abbrev pub departure_word : Departure → List ℕ
+departure_word NoMemory = codes "no memory"
+departure_word (Unread source) = codes "read fault"
+departure_word WriteFault = codes "write fault"
 
 -- the word for why
 abbrev pub word_of : Stop → List ℕ
@@ -169,9 +181,7 @@ word_of (Refused (NoInput name)) = codes "no input"
 word_of (Refused (Unfit name p)) = place_word p
 word_of (Refused (Beyond q)) = quantity_word q
 word_of (Refused (BoundBelow bound states)) = codes "bound "
-word_of (Unread source) = codes "read fault"
-word_of WriteFault = codes "write fault"
-word_of NoMemory = codes "no memory"
+word_of (Departed departure) = departure_word departure
 
 -- the number that stands after the word
 abbrev pub number_of : Stop → Option ℕ

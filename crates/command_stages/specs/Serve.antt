@@ -5,9 +5,11 @@ use Rattle.test_world.specs.Count.{Rose}
 use Rattle.test_world.specs.Shelf.{ShelfState, held_of, HasName, Keeps, Visits, IsSound}
 use Rattle.test_world.specs.Sink.{SinkState, Grows, GrowsByPrefix}
 use Rattle.command_stages.specs.declared.stop.Source.{Source}
+use Rattle.command_stages.specs.declared.stop.Departure.{Departure}
+use Rattle.command_stages.specs.declared.stop.Departure.TheVariants.{NoMemory, Unread, WriteFault}
 use Rattle.command_stages.specs.declared.stop.Stop.{Stop}
-use Rattle.command_stages.specs.declared.stop.Stop.TheVariants.{NoCommand, Refused, Unread, WriteFault, NoMemory}
-use Rattle.command_stages.specs.Report.{name_of, names_of, status_of, status_of_stop, err_line}
+use Rattle.command_stages.specs.declared.stop.Stop.TheVariants.{NoCommand, Refused, Departed}
+use Rattle.command_stages.specs.Report.{name_of, names_of, status_of, status_of_departure, err_line}
 use Rattle.command_stages.specs.Stage.{Given, Stage, Printed, IsAnswer, IsDetermined, IsRead, at_shelf}
 
 -- an answer: what is put, and whether what it tells of passes, or why there is no more
@@ -59,29 +61,27 @@ IsPut run put (Ok passes) = Grows run.out run.out_after put
 IsPut run put (Err stop) = Grows run.out run.out_after put × (put ≡ [] → run.out_after ≡ run.out)
 
 -- what must be so where a call departs from its answer, and what `out` is then
-abbrev pub HasDeparted : Answering → Type 0 → Run → Stop → Type 0
-HasDeparted answers command run NoCommand = ⊥
-HasDeparted answers command run (Refused refusal) = ⊥
+abbrev pub HasDeparted : Answering → Type 0 → Run → Departure → Type 0
 HasDeparted answers command run (Unread source) = Rose run.shelf.faults run.shelf_after.faults
-    × (put : List ℕ) × IsFor answers run (answer put (Err (Unread source)))
+    × (put : List ℕ) × IsFor answers run (answer put (Err (Departed (Unread source))))
     × GrowsByPrefix run.out run.out_after put × (put ≡ [] → run.out_after ≡ run.out)
 HasDeparted answers command run WriteFault = Rose run.out.faults run.out_after.faults
     × (one : Answer) × IsFor answers run one × GrowsByPrefix run.out run.out_after one.put
-HasDeparted answers command run NoMemory = command × IsFor answers run (answer [] (Err NoMemory))
+HasDeparted answers command run NoMemory = command × IsFor answers run (answer [] (Err (Departed NoMemory)))
     × (run.out_after ≡ run.out)
 
 -- how a call ends before its last line: an answer is put, or the call departs
 abbrev pub Ends : Answering → Type 0 → Run → Result Bool Stop → Type 0
 Ends answers command run (Ok passes) =
     (put : List ℕ) × IsFor answers run (answer put (Ok passes)) × IsPut run put (Ok passes)
+Ends answers command run (Err (Departed departure)) = HasDeparted answers command run departure
 Ends answers command run (Err stop) =
-    (IsAnswer stop × (put : List ℕ) × IsFor answers run (answer put (Err stop)) × IsPut run put (Err stop))
-    ⊎ HasDeparted answers command run stop
+    (put : List ℕ) × IsFor answers run (answer put (Err stop)) × IsPut run put (Err stop)
 
 -- the shelf tells that it holds each text that a read wants
 abbrev pub HoldsAllWanted : Answering → Run → Type 0
 HoldsAllWanted answers run = (source : Source) (put : List ℕ) (sources : List Source)
-    → answers (given_of run) sources (answer put (Err (Unread source)))
+    → answers (given_of run) sources (answer put (Err (Departed (Unread source))))
     → HasName (held_of run.shelf) (name_of run.words source)
 
 -- the words are a command, or the stop says that they are none
@@ -118,10 +118,10 @@ pub record IsCarriedOut (call : Call) (one : Answer) : Type 0 where
 
 -- the call departs from its answer, by the status and the line of why
 pub record Departs (answers : Answering) (command : Type 0) (call : Call) : Type 0 where
-  pub why : Stop
+  pub why : Departure
   pub cause : HasDeparted answers command call.run why
-  pub status : call.status ≡ status_of_stop why
-  pub line : IsReported call (Err why)
+  pub status : call.status ≡ status_of_departure why
+  pub line : IsReported call (Err (Departed why))
 
 -- this is the answer, where these texts are taken up for it
 pub record IsAnswerOf (answers : Answering) (call : Call) (sources : List Source) (one : Answer) : Type 0 where

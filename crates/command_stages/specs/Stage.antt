@@ -1,5 +1,5 @@
 -- Stages: what a command comes to, one stage after another, from its words and what the shelf holds.
-use Rattle.std.specs.Prelude.{◌≡◌, ℕ, Bool, ◌≤◌, List, [], ◌∷◌, ◌++◌, length, Option, IsSome, ◌⊎◌, Result, Ok, Err}
+use Rattle.std.specs.Prelude.{◌≡◌, ◌≢◌, ℕ, Bool, ◌≤◌, List, [], ◌∷◌, ◌++◌, length, Option, IsSome, ◌⊎◌, Result, Ok, Err}
 use Rattle.chart_syntax.specs.declared.error.Refusal as text_error
 use Rattle.chart_syntax.specs.declared.error.Refusal.TheVariants as met
 use Rattle.suite_reading.specs.declared.error.Cause.{Cause}
@@ -10,8 +10,10 @@ use Rattle.command_stages.specs.declared.stop.Refusal.{Refusal}
 use Rattle.command_stages.specs.declared.stop.Refusal.TheVariants.{Fault, Limit, SuiteFault, SuiteLimit, TooLong}
 use Rattle.command_stages.specs.declared.stop.Source.{Source}
 use Rattle.command_stages.specs.declared.stop.Source.TheVariants.{Word}
+use Rattle.command_stages.specs.declared.stop.Departure.{Departure}
+use Rattle.command_stages.specs.declared.stop.Departure.TheVariants.{NoMemory, Unread, WriteFault}
 use Rattle.command_stages.specs.declared.stop.Stop.{Stop}
-use Rattle.command_stages.specs.declared.stop.Stop.TheVariants.{NoCommand, Refused, Unread, WriteFault, NoMemory}
+use Rattle.command_stages.specs.declared.stop.Stop.TheVariants.{NoCommand, Refused, Departed}
 use Rattle.command_stages.specs.Report.{word_at, name_of, names_of}
 
 -- what a call is given: its words, and what the shelf holds, where it tells it
@@ -35,13 +37,17 @@ Then {A} first next given sources (Err stop) = first given sources (Err stop)
 -- a value of which this holds
 unfoldable pub Is : {A : Type 0} → (A → Type 0) → Stage A
 Is P given sources (Ok a) = (sources ≡ []) × P a
-Is P given sources (Err stop) = (sources ≡ []) × (stop ≡ NoMemory)
+Is P given sources (Err stop) = (sources ≡ []) × (stop ≡ Departed NoMemory)
 
 -- refused so exactly where this holds
 unfoldable pub Unless : Type 0 → Refusal → Stage (Unit {0})
 Unless met refusal given sources (Ok u) = (sources ≡ []) × (met → ⊥)
 Unless met refusal given sources (Err (Refused other)) = (sources ≡ []) × met × (other ≡ refusal)
-Unless met refusal given sources (Err other) = (sources ≡ []) × (other ≡ NoMemory)
+Unless met refusal given sources (Err other) = (sources ≡ []) × (other ≡ Departed NoMemory)
+
+-- the same, of a stage that takes no memory
+unfoldable pub Memoryless : {A : Type 0} → Stage A → Stage A
+Memoryless stage given sources result = stage given sources result × (result ≢ Err (Departed NoMemory))
 
 -- the bytes held under the word with this number, at most so many
 unfoldable pub TextAt : ℕ → ℕ → Stage (List ℕ)
@@ -49,8 +55,9 @@ TextAt number most given sources (Ok bytes) = (sources ≡ Word number ∷ [])
     × Holds given.held (word_at given.words number) bytes × (length bytes ≤ most)
 TextAt number most given sources (Err (Refused refusal)) = (sources ≡ Word number ∷ [])
     × (refusal ≡ TooLong number) × HoldsMoreThan given.held (word_at given.words number) most
-TextAt number most given sources (Err (Unread source)) = (sources ≡ Word number ∷ []) × (source ≡ Word number)
-TextAt number most given sources (Err other) = (sources ≡ Word number ∷ []) × (other ≡ NoMemory)
+TextAt number most given sources (Err (Departed (Unread source))) =
+    (sources ≡ Word number ∷ []) × (source ≡ Word number)
+TextAt number most given sources (Err other) = (sources ≡ Word number ∷ []) × (other ≡ Departed NoMemory)
 
 -- the refusal of the text that the word with this number names, for a line of it and what is met there
 abbrev pub text_refusal : ℕ → ℕ → text_error.Refusal → Refusal
@@ -67,7 +74,7 @@ unfoldable pub Reading : {A C : Type 0} → (ℕ → C → Refusal) → (A → T
 Reading {A} {C} refusal reads refuses given sources (Ok a) = (sources ≡ []) × reads a
 Reading {A} {C} refusal reads refuses given sources (Err (Refused other)) = (sources ≡ [])
     × (line : ℕ) × (met : C) × (other ≡ refusal line met) × refuses line met
-Reading {A} {C} refusal reads refuses given sources (Err other) = (sources ≡ []) × (other ≡ NoMemory)
+Reading {A} {C} refusal reads refuses given sources (Err other) = (sources ≡ []) × (other ≡ Departed NoMemory)
 
 -- a whole text, and whether what it tells of passes
 pub record Printed : Type 0 where
@@ -78,13 +85,17 @@ pub record Printed : Type 0 where
 abbrev pub Prints : Bool → List ℕ → Stage Printed
 Prints passes text = Is (λ printed. printed ≡ record { passes = passes; text = text })
 
--- why a stage function stops: what the stage comes to, where a read failed if it is one that failed
+-- how a stage function departs: as the stage does, where the count of failed reads rose if one failed; it writes nothing
+abbrev pub Departing : Departure → Type 0 → ℕ → ℕ → Type 0
+Departing NoMemory comes before after = comes
+Departing (Unread source) comes before after = comes × Rose before after
+Departing WriteFault comes before after = ⊥
+
+-- why a stage function stops: as the stage does, and the words were found to be a command before
 abbrev pub Stopped : Stop → Type 0 → ℕ → ℕ → Type 0
 Stopped NoCommand comes before after = ⊥
 Stopped (Refused refusal) comes before after = comes
-Stopped (Unread source) comes before after = comes × Rose before after
-Stopped WriteFault comes before after = ⊥
-Stopped NoMemory comes before after = comes
+Stopped (Departed departure) comes before after = Departing departure comes before after
 
 -- what a stage function answers, given these counts of failed reads before and after it
 abbrev pub Comes : {A : Type 0} → Stage A → Given → List Source → ℕ → ℕ → Result A Stop → Type 0
@@ -93,7 +104,7 @@ Comes stage given sources before after (Err stop) = Stopped stop (stage given so
 
 -- no read failed
 abbrev pub IsNoRead : Stop → Type 0
-IsNoRead (Unread source) = ⊥
+IsNoRead (Departed (Unread source)) = ⊥
 IsNoRead other = Unit {0}
 
 -- no read failed
@@ -103,7 +114,7 @@ IsRead (Err stop) = IsNoRead stop
 
 -- the shelf tells that it holds each text that a read of the stage wants
 abbrev pub HoldsWanted : {A : Type 0} → Stage A → Given → Type 0
-HoldsWanted stage given = (source : Source) (sources : List Source) → stage given sources (Err (Unread source))
+HoldsWanted stage given = (source : Source) (sources : List Source) → stage given sources (Err (Departed (Unread source)))
     → HasName given.held (name_of given.words source)
 
 -- what a stage is given where the words are these and the shelf is this
@@ -128,7 +139,7 @@ Makes stage result = (words : List (List ℕ)) (shelf : ShelfState) → Made sta
 abbrev pub IsAnswer : Stop → Type 0
 IsAnswer NoCommand = Unit {0}
 IsAnswer (Refused refusal) = Unit {0}
-IsAnswer other = ⊥
+IsAnswer (Departed departure) = ⊥
 
 -- a value or a refusal
 abbrev pub IsDetermined : {A : Type 0} → Result A Stop → Type 0
@@ -139,7 +150,7 @@ IsDetermined (Err stop) = IsAnswer stop
 pub record IsProper {A : Type 0} (may_read : Source → Type 0) (stage : Stage A) : Type 0 where
   pub one : (given : Given) → IsSome given.held → (s t : List Source) (x y : Result A Stop) → IsDetermined x
       → IsDetermined y → stage given s x → stage given t y → x ≡ y
-  pub only : (given : Given) (sources : List Source) (source : Source) → stage given sources (Err (Unread source))
+  pub only : (given : Given) (sources : List Source) (source : Source) → stage given sources (Err (Departed (Unread source)))
       → may_read source
 
 -- for a text there is at most one reading or one refusal

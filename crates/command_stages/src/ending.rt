@@ -1,7 +1,7 @@
 ghost use Rattle.command_stages.specs.Finish.{Finishes};
 
 use crate::print::Print;
-use crate::stop::Stop;
+use crate::stop::{Departure, Stop};
 use test_world::Sink;
 
 /// Puts what a command came to, and hands all of it on. Where it came to nothing, nothing is put.
@@ -14,10 +14,10 @@ pub fn finish<P: Print + Drop, K: Sink>(made: Result<P, Stop>, out: &mut K) -> R
     };
     match text.put(out) {
         Ok(()) => {}
-        Err(_) => return Err(Stop::WriteFault),
+        Err(_) => return Err(Stop::Departed(Departure::WriteFault)),
     }
     match out.flush() {
         Ok(()) => Ok(text.passes()),
-        Err(_) => Err(Stop::WriteFault),
+        Err(_) => Err(Stop::Departed(Departure::WriteFault)),
     }
 }

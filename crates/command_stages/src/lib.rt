@@ -16,6 +16,6 @@ pub use ending::finish;
 pub use line::Line;
 pub use print::Print;
 pub use reporting::report;
-pub use stop::{Quantity, Refusal, SignaturePlace, Source, Stop};
+pub use stop::{Departure, Quantity, Refusal, SignaturePlace, Source, Stop};
 pub use text::{refused, text_at, word_at};
 pub use texts::{Word, chart_at, word_over};

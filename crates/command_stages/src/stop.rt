@@ -1,5 +1,5 @@
 ghost use Rattle.std.specs.Prelude.{◌≡◌, ◌≤◌, length};
-ghost use Rattle.command_stages.specs.Report.{status_of_refusal, status_of_stop, source_of, line_of_stop, before_of, word_of, number_of, bounds_of, kind_word, limit_word, suite_kind_word, suite_limit_word, place_word, number_in, quantity_word};
+ghost use Rattle.command_stages.specs.Report.{status_of_refusal, status_of_departure, departure_word, status_of_stop, source_of, line_of_stop, before_of, word_of, number_of, bounds_of, kind_word, limit_word, suite_kind_word, suite_limit_word, place_word, number_in, quantity_word};
 
 use chart_syntax::{Kind, Which};
 use suite_reading::{SuiteKind, SuiteWhich};
@@ -91,6 +91,17 @@ pub enum Source {
     Replies,
 }
 
+/// Why a call departs from its answer.
+#[derive(Clone, Copy, PartialEq, Eq, Debug)]
+pub enum Departure {
+    /// There was no memory.
+    NoMemory,
+    /// A read failed.
+    Unread(Source),
+    /// A write failed.
+    WriteFault,
+}
+
 /// Why a command comes to no text: the words are none, the answer is a refusal, or the call departs from its answer.
 #[derive(Clone, Copy, PartialEq, Eq, Debug)]
 pub enum Stop {
@@ -98,12 +109,8 @@ pub enum Stop {
     NoCommand,
     /// The answer is a refusal.
     Refused(Refusal),
-    /// A read failed.
-    Unread(Source),
-    /// A write failed.
-    WriteFault,
-    /// There was no memory.
-    NoMemory,
+    /// The call departs from its answer.
+    Departed(Departure),
 }
 
 impl Refusal {
@@ -120,6 +127,30 @@ impl Refusal {
     }
 }
 
+impl Departure {
+    /// The status of the program.
+    pub fn status(self) -> u8
+        ensures { result ≡ status_of_departure self }
+    {
+        match self {
+            Departure::NoMemory => 6,
+            Departure::Unread(_) | Departure::WriteFault => 5,
+        }
+    }
+
+    /// The word for why.
+    pub fn word(self) -> &'static [u8]
+        ensures word { result.now ≡ departure_word self }
+        ensures short { length result.now ≤ 20 }
+    {
+        match self {
+            Departure::NoMemory => b"no memory",
+            Departure::Unread(_) => b"read fault",
+            Departure::WriteFault => b"write fault",
+        }
+    }
+}
+
 impl Stop {
     /// The status of the program.
     pub fn status(self) -> u8
@@ -128,8 +159,7 @@ impl Stop {
         match self {
             Stop::NoCommand => 2,
             Stop::Refused(refusal) => refusal.status(),
-            Stop::Unread(_) | Stop::WriteFault => 5,
-            Stop::NoMemory => 6,
+            Stop::Departed(departure) => departure.status(),
         }
     }
 
@@ -138,7 +168,7 @@ impl Stop {
         ensures { result ≡ source_of self }
     {
         match self {
-            Stop::Unread(source) => Some(source),
+            Stop::Departed(Departure::Unread(source)) => Some(source),
             Stop::Refused(Refusal::Fault { name, .. }) => Some(Source::Word(name)),
             Stop::Refused(Refusal::Limit { name, .. }) => Some(Source::Word(name)),
             Stop::Refused(Refusal::SuiteFault { name, .. }) => Some(Source::Word(name)),
@@ -175,7 +205,7 @@ impl Stop {
             Stop::Refused(Refusal::SuiteFault { .. }) => b": ",
             Stop::Refused(Refusal::Unfit { .. }) => b": unfit ",
             Stop::Refused(Refusal::Beyond(_)) => b"limit ",
-            Stop::Unread(_) => b": ",
+            Stop::Departed(Departure::Unread(_)) => b": ",
             _ => b"",
         }
     }
@@ -196,9 +226,7 @@ impl Stop {
             Stop::Refused(Refusal::Unfit { place, .. }) => place_word(place),
             Stop::Refused(Refusal::Beyond(quantity)) => quantity_word(quantity),
             Stop::Refused(Refusal::BoundBelow { .. }) => b"bound ",
-            Stop::Unread(_) => b"read fault",
-            Stop::WriteFault => b"write fault",
-            Stop::NoMemory => b"no memory",
+            Stop::Departed(departure) => departure.word(),
         }
     }
 

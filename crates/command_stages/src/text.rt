@@ -3,7 +3,7 @@ ghost use Rattle.command_stages.specs.Report.{word_at};
 ghost use Rattle.command_stages.specs.Stage.{Made, TextAt};
 ghost use Rattle.command_stages.specs.Text.{stop_of_load, stop_of_chart};
 
-use crate::stop::{Refusal, Source, Stop};
+use crate::stop::{Departure, Refusal, Source, Stop};
 use chart_syntax::ChartError;
 use std::alloc::Global;
 use test_world::{LoadError, Shelf, Text, load};
@@ -22,9 +22,9 @@ fn stop_of_load(number: usize, error: LoadError) -> Stop
     ensures { result ≡ stop_of_load number error }
 {
     match error {
-        LoadError::Fault => Stop::Unread(Source::Word(number)),
+        LoadError::Fault => Stop::Departed(Departure::Unread(Source::Word(number))),
         LoadError::TooLong => Stop::Refused(Refusal::TooLong { name: number }),
-        LoadError::Memory => Stop::NoMemory,
+        LoadError::Memory => Stop::Departed(Departure::NoMemory),
     }
 }
 
@@ -35,7 +35,7 @@ pub fn refused(name: usize, error: ChartError) -> Stop
     match error {
         ChartError::Fault { line, kind } => Stop::Refused(Refusal::Fault { name, line, kind }),
         ChartError::Limit { line, which } => Stop::Refused(Refusal::Limit { name, line, which }),
-        ChartError::Memory => Stop::NoMemory,
+        ChartError::Memory => Stop::Departed(Departure::NoMemory),
     }
 }
 

@@ -1,11 +1,10 @@
 -- The bound of a command.
-use Rattle.std.proofs.Common.{◌≡◌, ℕ, ◌<◌, ◌≤◌, ◌-◌, Bool, true, false, ◌&&◌, if◌then◌else◌, nat_lt, List, [], ◌∷◌, length, codes, Option, Some, None, refl, sym, ◌∙◌, ap, subst, arith}
-use Rattle.std.specs.Prelude.{IfSome, nat_le}
+use Rattle.std.proofs.Common.{◌≡◌, ℕ, ◌<◌, ◌≤◌, ◌-◌, Bool, true, false, ◌&&◌, if◌then◌else◌, nat_lt, List, [], ◌∷◌, refl, arith}
+use Rattle.std.specs.Prelude.{nat_le}
 use Rattle.std.proofs.lemmas.Bool.{ltb-true, leb-true}
-use Rattle.command_words.specs.declared.command.Command.{Command}
 use Rattle.command_words.specs.declared.command.Place.{Place}
 use Rattle.command_words.specs.declared.command.Place.TheVariants.{Text, Bound}
-use Rattle.command_words.specs.Command.{IsBounded, bound_of, bound_at, fits_places, is_input, takes, when}
+use Rattle.command_words.specs.Command.{bound_of, bound_at, fits_places, is_input, takes}
 
 and_first : (a b : Bool) → (a && b) ≡ true → a ≡ true
 and_first true b h = refl
@@ -27,19 +26,11 @@ at_bound left rest (word ∷ words) h =
     let below : bound_of word ≤ 1024 = leb-true (bound_of word) 1024 (and_second (nat_lt 0 (bound_of word)) (nat_le (bound_of word) 1024) taken) in
     (omega arith, below)
 
-after_name : (rest : List Place) (words : List (List ℕ)) → fits_places 1 (Text ∷ Bound ∷ rest) words ≡ true → (1 ≤ bound_at words 1) × (bound_at words 1 ≤ 1024)
+-- a bound between a name and any other places
+pub after_name : (rest : List Place) (words : List (List ℕ)) → fits_places 1 (Text ∷ Bound ∷ rest) words ≡ true → (1 ≤ bound_at words 1) × (bound_at words 1 ≤ 1024)
 after_name rest [] h = absurd cc
 after_name rest (word ∷ words) h = here (is_input Text word) h
   where
     here : (input : Bool) → (if input then nat_lt 0 1 && fits_places (1 - 1) (Bound ∷ rest) words else (takes Text word && fits_places 1 (Bound ∷ rest) words)) ≡ true → (1 ≤ bound_at (word ∷ words) 1) × (bound_at (word ∷ words) 1 ≤ 1024)
     here true k = at_bound (1 - 1) rest words (and_second (nat_lt 0 1) (fits_places (1 - 1) (Bound ∷ rest) words) k)
     here false k = at_bound 1 rest words (and_second (takes Text word) (fits_places 1 (Bound ∷ rest) words) k)
-
--- a bound between a name and any other places
-within : (rest : List Place) (words : List (List ℕ)) (bound : ℕ) → true ≡ fits_places 1 (Text ∷ Bound ∷ rest) words → bound ≡ bound_at words 1 → (1 ≤ bound) × (bound ≤ 1024)
-within rest words bound is at = subst (λ b. (1 ≤ b) × (b ≤ 1024)) (sym at) (after_name rest words (sym is))
-
--- a command with such a bound
-pub bounded : (rest : List Place) (words : List (List ℕ)) (fits : Bool) (bound : ℕ) (command : Command) (o : Option Command) → ((1 ≤ bound) × (bound ≤ 1024) → IsBounded command) → fits ≡ fits_places 1 (Text ∷ Bound ∷ rest) words → bound ≡ bound_at words 1 → o ≡ when fits command → IfSome o IsBounded
-bounded rest words true bound command o is_bounded is at e = let P : Option Command → Type 0 = λ x. IfSome x IsBounded in subst P (sym e) (is_bounded (within rest words bound is at))
-bounded rest words false bound command o is_bounded is at e = let P : Option Command → Type 0 = λ x. IfSome x IsBounded in subst P (sym e) tt

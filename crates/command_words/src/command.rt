@@ -1,7 +1,7 @@
-ghost use Rattle.std.specs.Prelude.{◌≡◌, IfSome, map, string_bytes};
-ghost use Rattle.command_words.specs.Command.{IsBounded, command_of, command_with, fits_places, is_input, names_text, takes, verb_of, when};
+ghost use Rattle.std.specs.Prelude.{◌≡◌, true, IfSome, map, string_bytes};
+ghost use Rattle.command_words.specs.Command.{IsBounded, command_for, command_of, command_with, fits_places, inputs_of, is_input, names_text, places_of, takes, verb_of};
 
-use crate::number::{bound_at, bound_of};
+use crate::number::{bound_at, bound_of, number_of};
 
 /// What the program is asked to do.
 #[derive(Clone, Copy, PartialEq, Eq, Debug)]
@@ -20,7 +20,7 @@ pub enum Command {
     Replay,
 }
 
-/// What the first word asks for.
+/// What the first word asks for. The program does not do all of it yet.
 #[derive(Clone, Copy)]
 enum Verb {
     Play,
@@ -29,6 +29,11 @@ enum Verb {
     Run,
     Json,
     Replay,
+    Gen,
+    SuiteWp,
+    Domain,
+    Mutants,
+    Ask,
 }
 
 /// What a word stands for.
@@ -40,19 +45,36 @@ pub enum Place {
     Cuts,
     /// A bound: 1 to 4 decimal digits, from 1 to 1,024.
     Bound,
+    /// A number: 1 to 10 decimal digits, up to 4,294,967,295.
+    Number,
 }
 
-/// What the words after `play` and `replay` stand for.
-const PLAY: &[Place] = &[Place::Text, Place::Text];
+/// What the words after a verb stand for.
+fn places_of(verb: Verb) -> &'static [Place]
+    ensures { result.now ≡ places_of verb }
+{
+    match verb {
+        Verb::Play | Verb::Replay => &[Place::Text, Place::Text],
+        Verb::Classes => &[Place::Text, Place::Cuts],
+        Verb::Suite | Verb::SuiteWp | Verb::Mutants | Verb::Ask => {
+            &[Place::Text, Place::Bound, Place::Cuts]
+        }
+        Verb::Run | Verb::Json | Verb::Domain => {
+            &[Place::Text, Place::Bound, Place::Cuts, Place::Text]
+        }
+        Verb::Gen => &[Place::Number],
+    }
+}
 
-/// What the words after `classes` stand for.
-const CLASSES: &[Place] = &[Place::Text, Place::Cuts];
-
-/// What the words after `suite` stand for.
-const SUITE: &[Place] = &[Place::Text, Place::Bound, Place::Cuts];
-
-/// What the words after `run` and `json` stand for.
-const RUN: &[Place] = &[Place::Text, Place::Bound, Place::Cuts, Place::Text];
+/// How many of these words may name standard input: none where replies are read from it.
+fn inputs_of(verb: Verb) -> usize
+    ensures { result ≡ inputs_of verb }
+{
+    match verb {
+        Verb::Ask => 0,
+        _ => 1,
+    }
+}
 
 fn takes(place: Place, word: &str) -> bool
     ensures { result ≡ takes place word.now }
@@ -63,6 +85,7 @@ fn takes(place: Place, word: &str) -> bool
             let bound = bound_of(word);
             0 < bound && bound <= 1_024
         }
+        Place::Number => number_of(word).is_some(),
     }
 }
 
@@ -71,7 +94,7 @@ fn is_input(place: Place, word: &str) -> bool
 {
     match place {
         Place::Text | Place::Cuts => word == "-",
-        Place::Bound => false,
+        Place::Bound | Place::Number => false,
     }
 }
 
@@ -105,12 +128,6 @@ fn names_text(words: &[String], number: usize) -> bool
     }
 }
 
-fn when(fits: bool, command: Command) -> Option<Command>
-    ensures { result ≡ when fits command }
-{
-    if fits { Some(command) } else { None }
-}
-
 fn verb_of(word: &str) -> Option<Verb>
     ensures { result ≡ verb_of word.now }
 {
@@ -132,36 +149,65 @@ fn verb_of(word: &str) -> Option<Verb>
     if word == "replay" {
         return Some(Verb::Replay);
     }
+    if word == "gen" {
+        return Some(Verb::Gen);
+    }
+    if word == "suite-wp" {
+        return Some(Verb::SuiteWp);
+    }
+    if word == "domain" {
+        return Some(Verb::Domain);
+    }
+    if word == "mutants" {
+        return Some(Verb::Mutants);
+    }
+    if word == "ask" {
+        return Some(Verb::Ask);
+    }
     None
 }
 
-// The command with these words after its verb.
-fn command_with(verb: Verb, words: &[String]) -> Option<Command>
-    ensures value { result ≡ command_with (Some verb) (map string_bytes words.now) }
+// The command with these words after its verb, which stand in its places; none where the program does not do it yet.
+fn command_for(verb: Verb, words: &[String]) -> Option<Command>
+    requires { fits_places (inputs_of verb) (places_of verb) (map string_bytes words.now) ≡ true }
+    ensures value { result ≡ command_for verb (map string_bytes words.now) }
     ensures bound { IfSome result IsBounded }
 {
     match verb {
-        Verb::Play => when(fits_places(1, PLAY, words), Command::Play),
-        Verb::Replay => when(fits_places(1, PLAY, words), Command::Replay),
+        Verb::Play => Some(Command::Play),
+        Verb::Replay => Some(Command::Replay),
         Verb::Classes => {
             let cuts = names_text(words, 1);
-            when(fits_places(1, CLASSES, words), Command::Classes { cuts })
+            Some(Command::Classes { cuts })
         }
         Verb::Suite => {
             let bound = bound_at(words, 1);
             let cuts = names_text(words, 2);
-            when(fits_places(1, SUITE, words), Command::Suite { bound, cuts })
+            Some(Command::Suite { bound, cuts })
         }
         Verb::Run => {
             let bound = bound_at(words, 1);
             let cuts = names_text(words, 2);
-            when(fits_places(1, RUN, words), Command::Run { bound, cuts })
+            Some(Command::Run { bound, cuts })
         }
         Verb::Json => {
             let bound = bound_at(words, 1);
             let cuts = names_text(words, 2);
-            when(fits_places(1, RUN, words), Command::Json { bound, cuts })
+            Some(Command::Json { bound, cuts })
         }
+        Verb::Gen | Verb::SuiteWp | Verb::Domain | Verb::Mutants | Verb::Ask => None,
+    }
+}
+
+// The command with these words after its verb, if they stand in its places.
+fn command_with(verb: Verb, words: &[String]) -> Option<Command>
+    ensures value { result ≡ command_with (Some verb) (map string_bytes words.now) }
+    ensures bound { IfSome result IsBounded }
+{
+    if fits_places(inputs_of(verb), places_of(verb), words) {
+        command_for(verb, words)
+    } else {
+        None
     }
 }
 

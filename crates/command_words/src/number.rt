@@ -1,7 +1,7 @@
 ghost use Rattle.std.specs.Prelude.{◌≡◌, map, string_bytes};
 ghost use Rattle.std.specs.Char.{is_ascii_digit};
 ghost use Rattle.std.specs.List.{list_all};
-ghost use Rattle.command_words.specs.Command.{bound_of, bound_at};
+ghost use Rattle.command_words.specs.Command.{bound_of, bound_at, number_of};
 
 fn are_digits(word: &[u8]) -> bool
     ensures { result ≡ list_all is_ascii_digit word.now }
@@ -29,5 +29,18 @@ pub fn bound_at(words: &[String], number: usize) -> usize
     match words.get(number) {
         Some(word) => bound_of(word.as_str()),
         None => 0,
+    }
+}
+
+/// The number that 1 to 10 decimal digits write, if it is at most 4,294,967,295.
+pub fn number_of(word: &str) -> Option<u32>
+    ensures { result ≡ number_of word.now }
+{
+    if word.len() == 0 || word.len() > 10 || !are_digits(word.as_bytes()) {
+        return None;
+    }
+    match word.parse::<u32>() {
+        Ok(number) => Some(number),
+        Err(_) => None,
     }
 }

@@ -72,7 +72,6 @@ fn plays_and_classes(rt: HostRuntime) -> Result<(), Fail> {
         is("classes  C", None),
         is("classes A ", None),
         is("Classes A C", None),
-        is("gen 0", None),
         is("", None),
     ];
     Ok(check(&rt, rt.alloc(), &cases)?)
@@ -145,6 +144,19 @@ fn replays(rt: HostRuntime) -> Result<(), Fail> {
         is("replay S ", None),
         is("replay S A A", None),
         is("Replay S A", None),
+    ];
+    Ok(check(&rt, rt.alloc(), &cases)?)
+}
+
+// The verbs that stand in the table of places and are not built yet.
+#[test]
+fn no_commands_yet(rt: HostRuntime) -> Result<(), Fail> {
+    let cases = [
+        is("gen 0", None),
+        is("suite-wp A 2 none", None),
+        is("domain A 2 none A", None),
+        is("mutants A 2 none", None),
+        is("ask A 2 none", None),
     ];
     Ok(check(&rt, rt.alloc(), &cases)?)
 }

@@ -10,7 +10,7 @@ use crate::judgement::Judged;
 use chart_meaning::ChartPlan;
 use class_split::Partition;
 use class_stages::{classes_over, cuts_at};
-use command_stages::{Stop, chart_at};
+use command_stages::{Departure, Stop, chart_at};
 use run_stages::{Implementation, fits_over, implementation_at, verdict_over};
 use std::alloc::Global;
 use suite_model::{Scratch, Suite};
@@ -24,7 +24,7 @@ pub fn judge_by(alloc: Global, suite: Suite, implementation: Implementation) -> 
 {
     let mut scratch = match Scratch::for_suite(alloc, &suite) {
         Ok(scratch) => scratch,
-        Err(_) => return Err(Stop::NoMemory),
+        Err(_) => return Err(Stop::Departed(Departure::NoMemory)),
     };
     let verdict = verdict_over(alloc, &suite, implementation, &mut scratch)?;
     Ok(Judged::new(suite, verdict, scratch))
@@ -69,6 +69,6 @@ pub fn judge_at<F: Shelf>(
     let partition = classes_over(alloc, 1, &chart, &cuts)?;
     match ChartPlan::new(alloc, chart) {
         Ok(plan) => judge_over(alloc, bound, &plan, &partition, implementation),
-        Err(_) => Err(Stop::NoMemory),
+        Err(_) => Err(Stop::Departed(Departure::NoMemory)),
     }
 }

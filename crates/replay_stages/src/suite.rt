@@ -2,7 +2,7 @@ ghost use Rattle.std.specs.Prelude.{◌≡◌, map, string_bytes};
 ghost use Rattle.command_stages.specs.Stage.{Made};
 ghost use Rattle.replay_stages.specs.Suites.{SuiteAt, stop_of_suite};
 
-use command_stages::{Refusal, Stop, text_at};
+use command_stages::{Departure, Refusal, Stop, text_at};
 use std::alloc::Global;
 use suite_model::Suite;
 use suite_reader::{SuiteError, read_suite};
@@ -20,7 +20,7 @@ fn refused(name: usize, error: SuiteError) -> Stop
         SuiteError::Limit { line, which } => {
             Stop::Refused(Refusal::SuiteLimit { name, line, which })
         }
-        SuiteError::Memory => Stop::NoMemory,
+        SuiteError::Memory => Stop::Departed(Departure::NoMemory),
     }
 }
 

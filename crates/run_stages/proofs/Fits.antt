@@ -12,20 +12,20 @@ use Rattle.command_stages.specs.declared.stop.Refusal.TheVariants as refusal
 use Rattle.command_stages.specs.declared.stop.SignaturePlace.{SignaturePlace}
 use Rattle.command_stages.specs.declared.stop.Stop.TheVariants.{Refused}
 use Rattle.command_stages.specs.declared.stop.Source.{Source}
-use Rattle.command_stages.specs.Stage.{Given, Unless, Made}
-use Rattle.command_stages.proofs.Stages.{made_is, made_refusal}
+use Rattle.command_stages.specs.Stage.{Given, Unless, Memoryless, Made}
+use Rattle.command_stages.proofs.Stages.{made_is, made_refusal, made_so}
 use Rattle.run_stages.specs.Stages.{FitsBy, FitsOver, place_of}
 
 pub made_fit : (name : ℕ) (model seen other : Signature) {words : List (List ℕ)} {shelf : ShelfState} → seen ≡ other → first_difference model seen ≡ None → Made (FitsOver name model other) words shelf shelf (Ok tt)
 made_fit name model seen other {words} {shelf} same e =
     let P : Option Unfit → Type 0 = λ d. Made (FitsBy name d) words shelf shelf (Ok tt) in
-    subst P (sym e ∙ ap (first_difference model) same) (made_is _ tt)
+    made_so _ (λ n. cc) (subst P (sym e ∙ ap (first_difference model) same) (made_is _ tt))
 
 pub made_unfit : (name : ℕ) (model seen other : Signature) (u : Unfit) (place : SignaturePlace) {words : List (List ℕ)} {shelf : ShelfState} → seen ≡ other → place ≡ place_of u → first_difference model seen ≡ Some u → Made (FitsOver name model other) words shelf shelf (Err (Refused (refusal.Unfit name place)))
 made_unfit name model seen other u place {words} {shelf} same at e =
     let P : Option Unfit → Type 0 = λ d. Made (FitsBy name d) words shelf shelf (Err (Refused (refusal.Unfit name (place_of u)))) in
     let Q : SignaturePlace → Type 0 = λ p. Made (FitsOver name model other) words shelf shelf (Err (Refused (refusal.Unfit name p))) in
-    subst Q (sym at) (subst P (sym e ∙ ap (first_difference model) same) (made_refusal _ _ tt))
+    subst Q (sym at) (made_so _ (λ n. cc) (subst P (sym e ∙ ap (first_difference model) same) (made_refusal _ _ tt)))
 
 -- the number of an input or output is small
 abbrev pub IsBelow : ℕ → Unfit → Type 0
@@ -85,6 +85,7 @@ later_none (Some u) e h = absurd cc
 
 -- the stage came to its end
 pub has_fit : (name : ℕ) (model other : Signature) (given : Given) (sources : List Source) → FitsOver name model other given sources (Ok tt) → IsFitting model other
+unfolding Memoryless
 has_fit name model other given sources h =
-    let none = later_none (inputs_difference model.inputs other.inputs) (outputs_difference model.outputs other.outputs) (no_difference name (first_difference model other) given sources h) in
+    let none = later_none (inputs_difference model.inputs other.inputs) (outputs_difference model.outputs other.outputs) (no_difference name (first_difference model other) given sources h.0) in
     fitting model other none.0 none.1

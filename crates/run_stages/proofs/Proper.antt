@@ -13,7 +13,7 @@ use Rattle.test_subject.specs.Verdict.{IsVerdict}
 use Rattle.command_stages.specs.declared.stop.Source.{Source}
 use Rattle.command_stages.specs.declared.stop.Source.TheVariants.{Word}
 use Rattle.command_stages.specs.Stage.{IsProper, IsDecidedBy}
-use Rattle.command_stages.proofs.Proper.{proper_then, proper_is, proper_text, proper_reading, proper_unless}
+use Rattle.command_stages.proofs.Proper.{proper_then, proper_is, proper_text, proper_reading, proper_unless, proper_so}
 use Rattle.command_stages.proofs.Readers.{Charts}
 use Rattle.run_stages.specs.declared.implementation.Implementation.{Implementation}
 use Rattle.run_stages.specs.declared.implementation.Implementation.TheVariants.{Chart as OfChart, Table as OfTable}
@@ -62,7 +62,7 @@ fits_by name None = proper_is _ (λ a b p q. refl)
 fits_by name (Some d) = proper_unless _ _
 
 pub fits_proper : {may : Source → Type 0} (name : ℕ) (model other : Signature) → IsProper may (FitsOver name model other)
-fits_proper name model other = fits_by name (first_difference model other)
+fits_proper name model other = proper_so _ (fits_by name (first_difference model other))
 
 pub verdict_proper : {may : Source → Type 0} → Verdicts → (suite : SuiteParts) (implementation : Implementation) → IsProper may (VerdictOver suite implementation)
 verdict_proper verdicts suite implementation = proper_is _ (verdicts (answers_of implementation) (tests_of suite))

@@ -10,7 +10,7 @@ use Rattle.test_subject.specs.Verdict.{IsVerdict}
 use Rattle.command_stages.specs.declared.stop.SignaturePlace.{SignaturePlace}
 use Rattle.command_stages.specs.declared.stop.SignaturePlace.TheVariants as place
 use Rattle.command_stages.specs.declared.stop.Refusal.TheVariants as refusal
-use Rattle.command_stages.specs.Stage.{Stage, Then, Is, Unless, TextAt, Reading, text_refusal}
+use Rattle.command_stages.specs.Stage.{Stage, Then, Is, Unless, TextAt, Reading, text_refusal, Memoryless}
 use Rattle.command_stages.specs.Texts.{most_bytes}
 use Rattle.run_stages.specs.declared.implementation.Implementation.{Implementation}
 use Rattle.run_stages.specs.Implementations.{answers_of, ReadsImplementation, RefusesImplementation}
@@ -33,9 +33,9 @@ FitsBy name None = Is (λ _. Unit {0})
 FitsBy name (Some difference) = Unless (Unit {0}) (refusal.Unfit name (place_of difference))
 
 -- the signature of the implementation, which the word with this number names, is the model's; the first difference is the
--- refusal
+-- refusal; no memory is taken
 abbrev pub FitsOver : ℕ → Signature → Signature → Stage (Unit {0})
-FitsOver name model other = FitsBy name (first_difference model other)
+FitsOver name model other = Memoryless (FitsBy name (first_difference model other))
 
 -- the verdict on an implementation
 abbrev pub VerdictOver : SuiteParts → Implementation → Stage Verdict

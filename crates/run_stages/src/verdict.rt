@@ -9,13 +9,13 @@ ghost use Rattle.run_stages.specs.Stages.{VerdictOver};
 
 use crate::implementation::Implementation;
 use chart_meaning::ChartPlan;
-use command_stages::Stop;
+use command_stages::{Departure, Stop};
 use std::alloc::Global;
 use suite_model::{Scratch, Suite};
-use suite_run::verdict_on_plan;
+use suite_run::verdict_by_words;
 use test_subject::Verdict;
 
-/// The verdict on an implementation. The memory is that of a chart's plan.
+/// The verdict on an implementation. The memory that may be wanting is that of a chart's plan.
 pub fn verdict_over(
     alloc: Global,
     suite: &Suite,
@@ -30,9 +30,9 @@ pub fn verdict_over(
 {
     match implementation {
         Implementation::Chart(chart) => match ChartPlan::new(alloc, chart) {
-            Ok(plan) => Ok(verdict_on_plan(suite, plan, scratch)),
-            Err(_) => Err(Stop::NoMemory),
+            Ok(plan) => Ok(verdict_by_words(alloc, suite, plan, scratch)),
+            Err(_) => Err(Stop::Departed(Departure::NoMemory)),
         },
-        Implementation::Table(table) => Ok(verdict_on_plan(suite, table, scratch)),
+        Implementation::Table(table) => Ok(verdict_by_words(alloc, suite, table, scratch)),
     }
 }

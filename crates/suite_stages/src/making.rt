@@ -7,7 +7,7 @@ ghost use Rattle.suite_stages.specs.inside.Stops.{stop_of_make};
 
 use chart_meaning::{ChartPlan, configurations_go_on};
 use class_split::Partition;
-use command_stages::{Quantity, Refusal, Stop};
+use command_stages::{Departure, Quantity, Refusal, Stop};
 use guard_atoms::members_act_alike;
 use std::alloc::Global;
 use suite_making::{MakeError, make_suite};
@@ -22,7 +22,7 @@ fn stop_of_make(bound: usize, error: MakeError) -> Stop
         }
         MakeError::BoundBelow { states } => Stop::Refused(Refusal::BoundBelow { bound, states }),
         MakeError::TooManySteps => Stop::Refused(Refusal::Beyond(Quantity::Steps)),
-        MakeError::Memory => Stop::NoMemory,
+        MakeError::Memory => Stop::Departed(Departure::NoMemory),
     }
 }
 

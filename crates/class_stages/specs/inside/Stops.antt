@@ -7,15 +7,16 @@ use Rattle.class_split.specs.declared.splitting.SplitError.TheVariants as split_
 use Rattle.command_stages.specs.declared.stop.Quantity.TheVariants as quantity
 use Rattle.command_stages.specs.declared.stop.Refusal.TheVariants.{NoInput, Beyond}
 use Rattle.command_stages.specs.declared.stop.Stop.{Stop}
-use Rattle.command_stages.specs.declared.stop.Stop.TheVariants.{Refused, NoMemory}
+use Rattle.command_stages.specs.declared.stop.Departure.TheVariants.{NoMemory}
+use Rattle.command_stages.specs.declared.stop.Stop.TheVariants.{Refused, Departed}
 
 abbrev pub stop_of_atoms : AtomError → Stop
 stop_of_atoms atom_error.Coefficient = Refused (Beyond quantity.Coefficient)
 stop_of_atoms atom_error.TooMany = Refused (Beyond quantity.Atoms)
-stop_of_atoms atom_error.Memory = NoMemory
+stop_of_atoms atom_error.Memory = Departed NoMemory
 
 -- for the chart that the word with this number names
 abbrev pub stop_of_split : ℕ → SplitError → Stop
 stop_of_split name split_error.TooMany = Refused (Beyond quantity.Classes)
 stop_of_split name (split_error.NoInput tree) = Refused (NoInput name)
-stop_of_split name split_error.Memory = NoMemory
+stop_of_split name split_error.Memory = Departed NoMemory

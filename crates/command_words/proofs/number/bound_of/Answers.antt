@@ -8,4 +8,4 @@ pub returns-in-Err : goal.returns-in-Err
 returns-in-Err c =
     let some = c.if-word-eq0.false in
     let few = c.if-word-gt4.false in
-    absurd (parsed c.args.word.now c.in-Err.field-0 c.in-Err.ensures.value.0 (omega (arith, some)) (omega (arith, few)) (ap (list_all is_ascii_digit) (sym c.as_bytes.ensures.value) ∙ sym c.if-not-are_digits.ensures))
+    absurd (parsed 16 4 c.args.word.now c.in-Err.field-0 (omega arith) c.in-Err.ensures.value.0 (omega (arith, some)) (omega (arith, few)) (ap (list_all is_ascii_digit) (sym c.as_bytes.ensures.value) ∙ sym c.if-not-are_digits.ensures))
