@@ -1,0 +1,7 @@
+//! Charts from a number.
+#![tactic(auto)]
+
+mod generating;
+mod text;
+
+pub use generating::generate;
