@@ -4,7 +4,8 @@ use Rattle.command_words.specs.Command.{command_of, IsCommand}
 use Rattle.command_stages.specs.declared.stop.Refusal.{Refusal}
 use Rattle.command_stages.specs.declared.stop.Refusal.TheVariants.{Fault}
 use Rattle.command_stages.specs.declared.stop.Stop.{Stop}
-use Rattle.command_stages.specs.declared.stop.Stop.TheVariants.{NoCommand, Refused, Unread, WriteFault, NoMemory}
+use Rattle.command_stages.specs.declared.stop.Departure.TheVariants.{NoMemory}
+use Rattle.command_stages.specs.declared.stop.Stop.TheVariants.{NoCommand, Refused, Departed}
 use Rattle.command_stages.specs.Report.{status_of, status_of_refusal, status_of_stop}
 use Rattle.command_stages.specs.Serve.{Run, IsRun}
 use Rattle.command_stages.proofs.Serving.{no_zero}
@@ -30,9 +31,8 @@ no_one_refusal other e = cc
 no_one : (stop : Stop) → status_of_stop stop ≡ 1 → ⊥
 no_one NoCommand e = cc
 no_one (Refused refusal) e = no_one_refusal refusal e
-no_one (Unread source) e = cc
-no_one WriteFault e = cc
-no_one NoMemory e = cc
+no_one (Departed NoMemory) e = cc
+no_one (Departed other) e = cc
 
 pub at_stop : (stop : Stop) (passes : Bool) → status_of_stop stop ≡ status_of (Ok passes) → ⊥
 at_stop stop true e = no_zero stop e

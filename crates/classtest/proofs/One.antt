@@ -5,7 +5,8 @@ use Rattle.command_words.specs.declared.command.Command.{Command}
 use Rattle.command_words.specs.declared.command.Command.TheVariants.{Play, Classes, Suite, Run, Json, Replay}
 use Rattle.command_words.specs.Command.{command_of}
 use Rattle.command_stages.specs.declared.stop.Source.{Source}
-use Rattle.command_stages.specs.declared.stop.Stop.TheVariants.{NoCommand, Unread}
+use Rattle.command_stages.specs.declared.stop.Departure.TheVariants.{Unread}
+use Rattle.command_stages.specs.declared.stop.Stop.TheVariants.{NoCommand, Departed}
 use Rattle.command_stages.specs.Stage.{Given, IsDetermined, IsProper, Prints}
 use Rattle.command_stages.specs.Serve.{Answer, answer, IsOne}
 use Rattle.command_stages.proofs.Proper.{proper_then, proper_prints, whole_one}
@@ -73,8 +74,8 @@ one_command texts (Some (Json bound named)) given told s t x y d e p q = whole_o
 pub one : AreDecided → IsOne Answers
 one texts given told s t x y d e p q = one_command texts (command_of given.words) given told s t x y d e p q
 
-only_command : AreDecided → (o : Option Command) (given : Given) (sources : List Source) (put : List ℕ) (source : Source) → command_of given.words ≡ o → AnswersCommand o given sources (answer put (Err (Unread source))) → IsNamed given source
-only_command texts None given sources put source is h = let e : Err (Unread source) ≡ Err NoCommand = (λ i. (h.1 i).ends) in cc
+only_command : AreDecided → (o : Option Command) (given : Given) (sources : List Source) (put : List ℕ) (source : Source) → command_of given.words ≡ o → AnswersCommand o given sources (answer put (Err (Departed (Unread source)))) → IsNamed given source
+only_command texts None given sources put source is h = let e : Err (Departed (Unread source)) ≡ Err NoCommand = (λ i. (h.1 i).ends) in cc
 only_command texts (Some Play) given sources put source is h = (Play, is, (play_proper texts).only given sources source h.1)
 only_command texts (Some (Classes named)) given sources put source is h = (Classes named, is, (classes_proper texts named).only given sources source h.1)
 only_command texts (Some (Suite bound named)) given sources put source is h = (Suite bound named, is, (suite_ends_proper texts bound named).only given sources source h.1)
@@ -82,5 +83,5 @@ only_command texts (Some (Run bound named)) given sources put source is h = (Run
 only_command texts (Some Replay) given sources put source is h = (Replay, is, (replay_ends_proper texts).only given sources source h.1)
 only_command texts (Some (Json bound named)) given sources put source is h = (Json bound named, is, (run_ends_proper texts json_text bound named).only given sources source h.1)
 
-pub only : AreDecided → (given : Given) (sources : List Source) (put : List ℕ) (source : Source) → Answers given sources (answer put (Err (Unread source))) → IsNamed given source
+pub only : AreDecided → (given : Given) (sources : List Source) (put : List ℕ) (source : Source) → Answers given sources (answer put (Err (Departed (Unread source)))) → IsNamed given source
 only texts given sources put source h = only_command texts (command_of given.words) given sources put source refl h

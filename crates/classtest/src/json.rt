@@ -3,7 +3,7 @@ ghost use Rattle.command_stages.specs.Stage.{Made};
 ghost use Rattle.verdict_report.specs.Json.{json_text};
 ghost use Rattle.classtest.specs.Ends.{RunEnds};
 
-use command_stages::Stop;
+use command_stages::{Departure, Stop};
 use judge_stages::{JsonLine, judge_at};
 use std::alloc::Global;
 use test_world::Shelf;
@@ -23,6 +23,6 @@ pub fn json<F: Shelf>(
     let judged = judge_at(alloc, words, bound, cuts, shelf)?;
     match JsonLine::new(alloc, &judged) {
         Ok(line) => Ok(line),
-        Err(_) => Err(Stop::NoMemory),
+        Err(_) => Err(Stop::Departed(Departure::NoMemory)),
     }
 }

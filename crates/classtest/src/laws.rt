@@ -1,7 +1,8 @@
 ghost use Rattle.std.specs.Prelude.{◌≡◌, Bool, List, ℕ, Ok, Err};
 ghost use Rattle.command_words.specs.Command.{IsCommand, command_of};
 ghost use Rattle.command_stages.specs.declared.stop.Source.{Source};
-ghost use Rattle.command_stages.specs.declared.stop.Stop.TheVariants.{Unread};
+ghost use Rattle.command_stages.specs.declared.stop.Departure.TheVariants.{Unread};
+ghost use Rattle.command_stages.specs.declared.stop.Stop.TheVariants.{Departed};
 ghost use Rattle.command_stages.specs.Stage.{Given};
 ghost use Rattle.command_stages.specs.Serve.{IsOne, IsRun, Run, answer};
 ghost use Rattle.classtest.specs.Ends.{Answers, IsNamed};
@@ -19,7 +20,7 @@ use test_subject::verdict_on_answers;
 pub fn one_answer()
     ensures one { IsOne Answers }
     ensures named { (given : Given) (sources : List Source) (put : List ℕ) (source : Source)
-        → Answers given sources (answer put (Err (Unread source))) → IsNamed given source }
+        → Answers given sources (answer put (Err (Departed (Unread source)))) → IsNamed given source }
 {
     chart_or_refusal();
     word_or_refusal();

@@ -6,7 +6,7 @@ ghost use Rattle.classtest.specs.Ends.{PlayEnds};
 ghost use Rattle.classtest.specs.Play.{play_text};
 
 use chart_meaning::ChartPlan;
-use command_stages::{Line, Print, Stop, Word, chart_at, word_over};
+use command_stages::{Departure, Line, Print, Stop, Word, chart_at, word_over};
 use lin_form::Vector;
 use std::alloc::Global;
 use std::marker::Model;
@@ -72,6 +72,6 @@ pub fn play<F: Shelf>(alloc: Global, words: &[String], shelf: &mut F) -> Result<
     let word = word_over(alloc, words, 2, &chart, shelf)?;
     match ChartPlan::new(alloc, chart) {
         Ok(plan) => Ok(Replies { plan, word }),
-        Err(_) => Err(Stop::NoMemory),
+        Err(_) => Err(Stop::Departed(Departure::NoMemory)),
     }
 }

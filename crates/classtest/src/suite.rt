@@ -4,7 +4,7 @@ ghost use Rattle.classtest.specs.Ends.{SuiteEnds};
 
 use chart_meaning::ChartPlan;
 use class_stages::{classes_over, cuts_at};
-use command_stages::{Stop, chart_at};
+use command_stages::{Departure, Stop, chart_at};
 use std::alloc::Global;
 use suite_stages::{SuiteLines, suite_over};
 use test_world::Shelf;
@@ -25,11 +25,11 @@ pub fn suite<F: Shelf>(
     let partition = classes_over(alloc, 1, &chart, &cuts)?;
     let plan = match ChartPlan::new(alloc, chart) {
         Ok(plan) => plan,
-        Err(_) => return Err(Stop::NoMemory),
+        Err(_) => return Err(Stop::Departed(Departure::NoMemory)),
     };
     let suite = suite_over(alloc, bound, &plan, &partition)?;
     match SuiteLines::new(alloc, suite) {
         Ok(lines) => Ok(lines),
-        Err(_) => Err(Stop::NoMemory),
+        Err(_) => Err(Stop::Departed(Departure::NoMemory)),
     }
 }

@@ -6,6 +6,7 @@ mod answers;
 mod classes;
 mod edges;
 mod failing;
+mod faults;
 mod order;
 mod replays;
 mod runs;
@@ -166,6 +167,32 @@ fn called(
         out: out.taken().to_vec(alloc)?,
         err: err.taken().to_vec(alloc)?,
     })
+}
+
+/// What the program does with these words, over these texts, where `out` has room for so many bytes.
+fn called_with_room(
+    alloc: Global,
+    line: &str,
+    texts: &[(&str, &str)],
+    room: usize,
+) -> Result<Outcome, AllocError> {
+    let words = words_of(alloc, line)?;
+    let mut shelf = MemShelf::new(held(alloc, texts)?, only(alloc, 0)?, 4_096);
+    let mut out = MemSink::new(alloc, room, only(alloc, 0)?, 4_096)?;
+    let mut err = sink(alloc, smooth(4_096), 0)?;
+    let status = classtest(alloc, words.as_slice(), &mut shelf, &mut out, &mut err);
+    Ok(Outcome {
+        status,
+        out: out.taken().to_vec(alloc)?,
+        err: err.taken().to_vec(alloc)?,
+    })
+}
+
+/// How many lines of a text begin so.
+fn lines_with(text: &[u8], front: &[u8]) -> usize {
+    text.split(|byte| *byte == b'\n')
+        .filter(|line| line.starts_with(front))
+        .count()
 }
 
 /// What is expected of a call: its status, and what `out` and `err` took.

@@ -155,6 +155,17 @@ fn too_many_classes(rt: HostRuntime) -> Result<(), Fail> {
     Ok(())
 }
 
+#[test]
+fn as_many_classes_as_there_may_be(rt: HostRuntime) -> Result<(), Fail> {
+    let most = cuts_of_six(rt.alloc(), &["2", "4", "6"])?;
+    let texts = [("W6", SIX), ("C6", most.as_str())];
+    let got = called_with_room(rt.alloc(), "classes W6 C6", &texts, 1_048_576)?;
+    assert_eq!(rt; got.status, 0);
+    assert_eq!(rt; lines_with(got.out.as_slice(), b"atom "), 18);
+    assert_eq!(rt; lines_with(got.out.as_slice(), b"class "), 4_096);
+    Ok(())
+}
+
 /// So many cuts of one input, from 1 on.
 fn cuts_of_one(alloc: Global, count: usize) -> Result<String, AllocError> {
     let mut cuts = String::from_str(alloc, "cuts 1\n")?;
@@ -170,15 +181,10 @@ fn atoms_at_their_limit(rt: HostRuntime) -> Result<(), Fail> {
     let steep = "chart 1\ninput v 0 200\noutput o 0\nstate S start\non S when 1000001*v >= 1\n";
     let full = cuts_of_one(rt.alloc(), 128)?;
     let texts = [("LINE", chart), ("N", full.as_str())];
-    let world = World {
-        chunk: 4_096,
-        shelf: 0,
-        out: 257,
-        err: 0,
-    };
-    let got = called(rt.alloc(), "classes LINE N", &texts, world)?;
-    // One line is put for each atom and for each class, 257 in all, and the last of them fails.
-    assert_eq!(rt; got.status, 5);
+    let got = called_with_room(rt.alloc(), "classes LINE N", &texts, 65_536)?;
+    assert_eq!(rt; got.status, 0);
+    assert_eq!(rt; lines_with(got.out.as_slice(), b"atom "), 128);
+    assert_eq!(rt; lines_with(got.out.as_slice(), b"class "), 129);
     let more = cuts_of_one(rt.alloc(), 129)?;
     let texts = [("LINE", chart), ("N", more.as_str())];
     let err = "classtest: limit atoms\n";

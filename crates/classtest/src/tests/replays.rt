@@ -7,7 +7,7 @@ const FRONT: &str =
     "suite 1\ninput v 0 10\noutput alarm\nbound 2\nstates 2\nclass 0\nclass 6\nclass 8\ncover\ncover 3\nmark 2\n";
 
 /// The chart's suite for two states.
-const SUITE: &str =
+pub(crate) const SUITE: &str =
     "suite 1\ninput v 0 10\noutput alarm\nbound 2\nstates 2\nclass 0\nclass 6\nclass 8\ncover\ncover 3\nmark 2\ntest 1 2\n0 / 0\n6 / 0\ntest 2 2\n6 / 0\n6 / 0\ntest 3 1 2\n8 / 1\n0 / 0\n6 / 0\ntest 3 2 2\n8 / 1\n6 / 1\n6 / 1\ntest 3 3 2\n8 / 1\n8 / 1\n6 / 1\nend 5\n";
 
 /// Without its last line.

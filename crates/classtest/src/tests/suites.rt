@@ -15,8 +15,13 @@ const ONE: &str = "chart 1\ninput v -2 3\noutput o 5\nstate S start\n";
 const RING: &str =
     "chart 1\ninput x 0 1\noutput o 0\nmemory n 0 255 0\nstate S0 start\nstate S1\nstate S2\nstate S3\nstate S4\non S0 when x = 1 go S1\non S0 do n = n + 1\non S1 when x = 1 go S2\non S1 do n = n + 1\non S2 when x = 1 go S3\non S2 do n = n + 1\non S3 when x = 1 go S4\non S3 do n = n + 1\non S4 when x = 1 go S0\non S4 do n = n + 1\n";
 
+/// As many configurations as there may be, of one state up to replies.
+const RING_OF_4: &str =
+    "chart 1\ninput x 0 1\noutput o 0\nmemory n 0 255 0\nstate S0 start\nstate S1\nstate S2\nstate S3\non S0 when x = 1 go S1\non S0 do n = n + 1\non S1 when x = 1 go S2\non S1 do n = n + 1\non S2 when x = 1 go S3\non S2 do n = n + 1\non S3 when x = 1 go S0\non S3 do n = n + 1\n";
+
 /// Charts and cuts by their names.
-const CHARTS: [(&str, &str); 4] = [
+const CHARTS: [(&str, &str); 5] = [
+    ("RING4", RING_OF_4),
     ("A", CHART),
     ("A2", CHART_ASSUMING),
     ("ONE", ONE),
@@ -24,7 +29,14 @@ const CHARTS: [(&str, &str); 4] = [
 ];
 
 /// The words; the status; what is put to `out` and to `err`.
-const ANSWERS: [(&str, u8, &str, &str); 8] = [
+const ANSWERS: [(&str, u8, &str, &str); 10] = [
+    (
+        "suite RING4 1 none",
+        0,
+        "suite 1\ninput x 0 1\noutput o\nbound 1\nstates 1\nclass 0\nclass 1\ncover\nmark\ntest 1\n0 / 0\ntest 2\n1 / 0\nend 2\n",
+        "",
+    ),
+    ("suite ONE 1025 none", 2, "", "classtest: no such command\n"),
     ("suite A 2 none", 0, SUITE, ""),
     ("suite A 0002 none", 0, SUITE, ""),
     ("suite A2 2 none", 0, SUITE_ASSUMING, ""),
@@ -74,6 +86,16 @@ const PARTS: [(&str, &[&str]); 3] = [
         ],
     ),
 ];
+
+#[test]
+fn the_greatest_bound(rt: HostRuntime) -> Result<(), Fail> {
+    let got = called_with_room(rt.alloc(), "suite ONE 1024 none", &CHARTS, 65_536)?;
+    assert_eq!(rt; got.status, 0);
+    assert!(rt; got.out.as_slice().ends_with(b"\nend 1\n"));
+    assert_eq!(rt; lines_with(got.out.as_slice(), b"test "), 1);
+    assert_eq!(rt; lines_with(got.out.as_slice(), b"-2 / 5"), 1_024);
+    Ok(())
+}
 
 #[test]
 fn parts_of_suites(rt: HostRuntime) -> Result<(), Fail> {
