@@ -29,7 +29,8 @@ for folder in sorted(p.parent for p in pathlib.Path(__file__).resolve().parent.g
         elif not write and text != parts.get(command, ""):
             differ += 1
             print(f"{folder.name}: {command}")
-            print("".join(difflib.unified_diff(parts.get(command, "").splitlines(True), text.splitlines(True), "expected", "printed")))
+            before = parts.get(command, "")
+            print("".join(difflib.unified_diff(before.splitlines(True), text.splitlines(True), "expected", "printed")))
     if write:
         expected.write_text(transcript)
 print(f"{differ} differ, {passed_over} commands that the program does not have")

@@ -6,8 +6,10 @@
                                                            and prints the verdict of the whole
 
 Each part is a suite of its own: the whole's first lines, some of its tests in their order, and an `end` line with their
-number. IMPL is the name of a file, not `-`. So `replay` takes a part, and any runner of jobs can do the same: an array of a cluster with `cut` before it and one
-`replay` a job, or a matrix of a service for continuous integration. GNU parallel runs the parts where it is installed.
+number. IMPL is the name of a file, not `-`. So `replay` takes a part, and any runner of jobs can do the same: an array of
+a cluster with `cut` before it and one `replay` a job, or a matrix of a service for continuous integration. GNU parallel
+runs the parts where it is installed. The status is that of `replay`; 5 also where SUITE cannot be read or
+PROGRAM is not there.
 """
 import concurrent.futures, os, pathlib, shutil, subprocess, sys, tempfile
 
@@ -59,11 +61,17 @@ def run(program, suite, parts, implementation):
     return 0
 
 
-if len(sys.argv) == 5 and sys.argv[1] == "cut":
-    pathlib.Path(sys.argv[4]).mkdir(parents=True, exist_ok=True)
-    cut(sys.argv[2], int(sys.argv[3]), pathlib.Path(sys.argv[4]))
-elif len(sys.argv) == 6 and sys.argv[1] == "run":
-    sys.exit(run(sys.argv[2], sys.argv[3], int(sys.argv[4]), sys.argv[5]))
-else:
-    print(__doc__, file=sys.stderr)
-    sys.exit(2)
+try:
+    if len(sys.argv) == 5 and sys.argv[1] == "cut":
+        pathlib.Path(sys.argv[4]).mkdir(parents=True, exist_ok=True)
+        cut(sys.argv[2], int(sys.argv[3]), pathlib.Path(sys.argv[4]))
+    elif len(sys.argv) == 6 and sys.argv[1] == "run":
+        if not shutil.which(sys.argv[2]):
+            raise OSError(f"{sys.argv[2]}: no such program")
+        sys.exit(run(sys.argv[2], sys.argv[3], int(sys.argv[4]), sys.argv[5]))
+    else:
+        print(__doc__, file=sys.stderr)
+        sys.exit(2)
+except OSError as fault:
+    print(fault, file=sys.stderr)
+    sys.exit(5)
