@@ -2,6 +2,7 @@ pub mod Actions
 pub mod Fresh
 pub mod Moderate
 pub mod Trees
+pub mod Pushing
 pub mod Partial
 pub mod Placing
 pub mod Joined

@@ -1,17 +1,12 @@
 -- What was declared keeps its promises with each line that passes its checks.
-use Rattle.std.proofs.Common.{◌≡◌, ◌≢◌, ℕ, ◌+◌, ◌*◌, ◌<◌, ◌≤◌, Bool, true, false, ◌||◌, ◌&&◌, not, List, [], ◌∷◌, ◌++◌, length, map, Option, Some}
-use Rattle.std.proofs.Common.{None, refl, sym, ◌∙◌, ap, subst, arith, append_assoc, length-append, mul_assoc}
-use Rattle.std.specs.Prelude.{nat_lt, nat_le, int_lt, unsigned_abs, AllPairs, slice_get, slice_set, option_map, option_and_then, unwrap_or}
+use Rattle.std.proofs.Common.{◌≡◌, ◌≢◌, ℕ, ◌+◌, ◌*◌, ◌<◌, ◌≤◌, Bool, true, false, ◌||◌, ◌&&◌, not, List, [], ◌∷◌, ◌++◌, length, Option, Some}
+use Rattle.std.proofs.Common.{None, refl, sym, ◌∙◌, ap, subst, arith, length-append}
+use Rattle.std.specs.Prelude.{nat_lt, nat_le, int_lt, unsigned_abs, AllPairs, slice_get, option_map, option_and_then, unwrap_or}
 use Rattle.std.specs.List.{All, list_any}
 use Rattle.std.specs.Option.{ForSome, option_map_or}
-use Rattle.std.proofs.lemmas.Bool.Decides.{nat_tests}
-use Rattle.std.proofs.lemmas.Int.{ints}
-use Rattle.std.proofs.lemmas.List.{map-append, append-nil, length-map, length-set}
-use Rattle.std.proofs.lemmas.List.Elements.{All-nil, All-push, All-set}
-use Rattle.std.proofs.lemmas.List.Folds.{list_any-append}
+use Rattle.std.proofs.lemmas.List.{map-append, length-map, length-set}
+use Rattle.std.proofs.lemmas.List.Elements.{All-nil, All-push}
 use Rattle.lin_form.specs.declared.form.Relation.TheVariants as relation
-use Rattle.line_forms.specs.declared.statement.Signed.{Signed}
-use Rattle.line_forms.specs.declared.statement.Signed.TheVariants.{Plain, Negated}
 use Rattle.line_forms.specs.declared.statement.TestForm.{TestForm}
 use Rattle.line_forms.specs.declared.statement.InputForm.{InputForm}
 use Rattle.line_forms.specs.declared.statement.OutputForm.{OutputForm}
@@ -23,8 +18,7 @@ use Rattle.line_forms.specs.declared.statement.Statement.{Statement}
 use Rattle.line_forms.specs.declared.statement.Statement.TheVariants as says
 use Rattle.line_forms.specs.Trees as written
 use Rattle.line_forms.specs.Forms.{value_of}
-use Rattle.line_forms.specs.Limits.{IsFree, IsSmallNumber, IsSmallAction, IsSmallGuard, IsSmallStatement}
-use Rattle.chart_model.specs.declared.action.Action.{Action}
+use Rattle.line_forms.specs.Limits.{IsFree, IsSmallGuard, IsSmallStatement}
 use Rattle.chart_model.specs.Chart.{IsAssumption, IsGuard}
 use Rattle.chart_syntax.specs.declared.reader.DeclaredState.{DeclaredState}
 use Rattle.chart_syntax.specs.declared.reader.Reader.{Reader}
@@ -32,63 +26,20 @@ use Rattle.chart_syntax.specs.declared.error.Kind.TheVariants as kind
 use Rattle.chart_syntax.specs.declared.error.Which.TheVariants as which
 use Rattle.chart_syntax.specs.declared.error.Refusal.TheVariants.{Fault, Limit}
 use Rattle.line_tokens.specs.Limits.{or_else}
-use Rattle.line_checks.specs.Names.{is_same, is_declared, place_of, use_check}
+use Rattle.line_checks.specs.Names.{is_declared, place_of, use_check}
 use Rattle.line_checks.specs.Guards.{guard_of}
-use Rattle.chart_syntax.specs.Scopes.{input_names, output_names, memory_names, guard_scope, assumption_of}
-use Rattle.chart_syntax.specs.Checks.{start, state_names, state_check, some_state_check, is_variable, comparisons_check, names_check, range_check}
+use Rattle.chart_syntax.specs.Scopes.{input_names, output_names, guard_scope, assumption_of}
+use Rattle.chart_syntax.specs.Checks.{start, state_names, state_check, some_state_check, comparisons_check, names_check, range_check}
 use Rattle.chart_syntax.specs.Checks.{start_check, count_check, limit_check, double_check, when_check, actions_check, actions_of}
 use Rattle.chart_syntax.specs.Checks.{target_check, found_target_check, is_parent, is_child_of, is_outside, is_constant, is_bounded, memory_size}
 use Rattle.chart_syntax.specs.Checks.{parent_number, depth_under, number_of, declared_state, transition_of, next_statement}
-use Rattle.chart_syntax.specs.inside.Promises.{HasRange, HasSmallValue, HasMemory, HasFew, AreLines, AreActions, IsMove, AreMoves, IsPartial, product_of}
+use Rattle.chart_syntax.specs.inside.Promises.{HasRange, HasSmallValue, HasMemory, HasFew, IsMove, IsPartial}
 use Rattle.chart_syntax.specs.inside.Promises.{variable_names}
 use Rattle.chart_syntax.proofs.Fresh.{or_none, told_none, if_none, or_false, below, ordered_range, different_push, number_within}
 use Rattle.chart_syntax.proofs.Moderate.{place_below, good_guard, good_actions, assumption_form, not_constant}
 use Rattle.chart_syntax.proofs.Trees.{states_push, found_at}
-
-one_more : {X : Type 0} (xs : List X) (x : X) (n : ℕ) → length xs < n → length (xs ++ x ∷ []) ≤ n
-one_more xs x n h = let e = length-append xs (x ∷ []) in omega arith
-
-limit_none : (b : Bool) (w : _) → limit_check b w ≡ None → b ≡ false
-limit_none b w e = if_none b (Limit w) e
-
-small_value : (n : Signed) → IsSmallNumber n → unsigned_abs (value_of n) ≤ 1000000
-small_value (Plain n) h = omega (arith, ints)
-small_value (Negated n) h = omega (arith, ints)
-
--- a name that is no variable is none of their names
-new_name : (s : Reader) (name : List ℕ) → double_check (is_variable s name) ≡ None → is_declared name (variable_names s) ≡ false
-new_name s name h =
-    list_any-append (is_same name) (input_names s ++ output_names s) (memory_names s)
-    ∙ ap (λ b. b || is_declared name (memory_names s)) (list_any-append (is_same name) (input_names s) (output_names s))
-    ∙ if_none (is_variable s name) (Fault kind.Double) h
-
-no_lines : (s : Reader) (lines : List (Option (List Action))) → All (λ line. line ≡ None) lines → AreLines s lines
-no_lines s lines h = λ k d less. let e = h k d less in λ actions f. absurd (cc)
-
-no_moves : (s : Reader) (t : Reader) → s.transitions ≡ [] → AreMoves t s.transitions
-no_moves s t e = subst (AreMoves t) (sym e) (All-nil (IsMove (length t.inputs) (length t.memories) (length t.outputs) t.states))
-
-push_names : {X : Type 0} (f : X → List ℕ) (front : List (List ℕ)) (xs : List X) (x : X) → front ++ map f (xs ++ x ∷ []) ≡ (front ++ map f xs) ++ f x ∷ []
-push_names f front xs x = ap (λ ys. front ++ ys) (map-append f xs (x ∷ [])) ∙ sym (append_assoc front (map f xs) (f x ∷ []))
-
-push_inputs : (s : Reader) (f : InputForm) → s.outputs ≡ [] → s.memories ≡ []
-    → map (λ form. form.name) (s.inputs ++ f ∷ []) ++ output_names s ++ memory_names s ≡ variable_names s ++ f.name ∷ []
-push_inputs s f o m =
-    let P : List OutputForm → List MemoryForm → Type 0 = λ outs mems. map (λ form. form.name) (s.inputs ++ f ∷ []) ++ map (λ form. form.name) outs
-    ++ map (λ form. form.name) mems ≡ (input_names s ++ map (λ form. form.name) outs ++ map (λ form. form.name) mems) ++ f.name ∷ [] in
-    let all = map (λ (form : InputForm). form.name) (s.inputs ++ f ∷ []) in
-    let none : (xs : List (List ℕ)) → xs ++ [] ++ [] ≡ xs = λ xs. append-nil (xs ++ []) ∙ append-nil xs in
-    subst (P s.outputs) (sym m) (subst (λ outs. P outs []) (sym o) (none all ∙ map-append (λ form. form.name) s.inputs (f ∷ [])
-    ∙ ap (λ xs. xs ++ f.name ∷ []) (sym (none (input_names s)))))
-
-push_outputs : (s : Reader) (f : OutputForm) → s.memories ≡ [] → input_names s ++ map (λ form. form.name) (s.outputs ++ f ∷ []) ++ memory_names s
-    ≡ variable_names s ++ f.name ∷ []
-push_outputs s f m =
-    let P : List MemoryForm → Type 0 = λ mems. input_names s ++ map (λ form. form.name) (s.outputs ++ f ∷ []) ++ map (λ form. form.name) mems
-    ≡ (input_names s ++ output_names s ++ map (λ form. form.name) mems) ++ f.name ∷ [] in
-    subst P (sym m) (append-nil (input_names s ++ map (λ form. form.name) (s.outputs ++ f ∷ []))
-    ∙ push_names (λ (form : OutputForm). form.name) (input_names s) s.outputs f
-    ∙ ap (λ xs. xs ++ f.name ∷ []) (sym (append-nil (input_names s ++ output_names s))))
+use Rattle.chart_syntax.proofs.Pushing.{one_more, limit_none, small_value, new_name, no_lines, no_moves, push_names, push_inputs, push_outputs}
+use Rattle.chart_syntax.proofs.Pushing.{product_push, not_true, both_true, at_most, at_most_not, all_none, some_same, new_lines}
 
 partial_input : (s : Reader) (f : InputForm) → IsPartial s → s.group ≤ 1 → IsSmallStatement (says.Input f) → names_check s (says.Input f) ≡ None
     → range_check s (says.Input f) ≡ None → count_check s (says.Input f) ≡ None → IsPartial (next_statement s (says.Input f))
@@ -225,24 +176,6 @@ partial_output s f p early small names count =
       actions_last = λ h. record { entries = quiet.entries; exits = quiet.exits; transitions = quiet.transitions };
     }
 
-product_push : (forms : List MemoryForm) (f : MemoryForm) → product_of (forms ++ f ∷ []) ≡ product_of forms * memory_size f
-product_push [] f = omega arith
-product_push (g ∷ forms) f = let e = product_push forms f in ap (λ n. memory_size g * n) e ∙ sym (mul_assoc (memory_size g) (product_of forms) (memory_size f))
-
-not_true : (b : Bool) → not b ≡ false → b ≡ true
-not_true true e = refl
-not_true false e = absurd (cc)
-
-both_true : (a b : Bool) → (a && b) ≡ true → (a ≡ true) × (b ≡ true)
-both_true true b e = (refl, e)
-both_true false b e = absurd (cc)
-
-at_most : (n m : ℕ) → nat_le n m ≡ true → n ≤ m
-at_most n m e = grind (arith, nat_tests)
-
-at_most_not : (n m : ℕ) → nat_lt m n ≡ false → n ≤ m
-at_most_not n m e = grind (arith, nat_tests)
-
 partial_memory : (s : Reader) (f : MemoryForm) → IsPartial s → s.group ≤ 4 → IsSmallStatement (says.Memory f)
     → names_check s (says.Memory f) ≡ None → range_check s (says.Memory f) ≡ None → count_check s (says.Memory f) ≡ None
     → IsPartial (next_statement s (says.Memory f))
@@ -313,9 +246,6 @@ new_depth s parent h = λ k e.
           ∙ ap (λ o. option_map_or (λ (above : DeclaredState). above.depth) o 0 + 1) found.1,
     )
 
-all_none : (lines : List (Option (List Action))) → All (λ line. line ≡ None) lines → All (λ line. line ≡ None) (lines ++ None ∷ [])
-all_none lines h = All-push (λ (line : Option (List Action)). line ≡ None) lines None h refl
-
 partial_state : (s : Reader) (f : StateForm) → IsPartial s → s.group ≤ 5 → IsSmallStatement (says.State f) → names_check s (says.State f) ≡ None
     → start_check s (says.State f) ≡ None → count_check s (says.State f) ≡ None → IsPartial (next_statement s (says.State f))
 partial_state s f p early small names begins count =
@@ -374,18 +304,6 @@ partial_state s f p early small names begins count =
       memories_later = λ h. absurd (omega (arith, h));
       actions_last = λ h. record { entries = entries; exits = exits; transitions = quiet.transitions };
     }
-
-some_same : {X : Type 0} (a b : X) → Some a ≡ Some b → a ≡ b
-some_same a b e = cc
-
-good_line : (s : Reader) (actions : List Action) → AreActions (length s.inputs) (length s.memories) (length s.outputs) actions
-    → ForSome (Some actions) (AreActions (length s.inputs) (length s.memories) (length s.outputs))
-good_line s actions h = λ xs e. subst (AreActions (length s.inputs) (length s.memories) (length s.outputs)) (some_same actions xs e) h
-
-new_lines : (s : Reader) (lines : List (Option (List Action))) (k : ℕ) (f : ActionsForm) → HasFew s → AreLines s lines
-    → All IsSmallAction f.actions → actions_check s f.actions ≡ None → AreLines s (slice_set lines k (Some (actions_of s f.actions)))
-new_lines s lines k f few kept small passes = All-set (λ line. ForSome line (AreActions (length s.inputs) (length s.memories) (length s.outputs)))
-    lines k (Some (actions_of s f.actions)) (good_line s (actions_of s f.actions) (good_actions s f.actions few small passes)) kept
 
 partial_entry : (s : Reader) (f : ActionsForm) → IsPartial s → IsSmallStatement (says.Entry f) → names_check s (says.Entry f) ≡ None
     → IsPartial (next_statement s (says.Entry f))
