@@ -11,7 +11,7 @@ use Rattle.std.proofs.lemmas.List.Quantifiers.{position-Some}
 use Rattle.std.proofs.lemmas.Option.{option_and_then_some, slice_get_within, slice_get-get_or, same_Some}
 use Rattle.chart_model.specs.declared.state.State.{State}
 use Rattle.chart_model.specs.States.{IsTree, parent_of, is_within_depth, is_start_child_of}
-use Rattle.chart_meaning.specs.Tree.{way_out, way_out_within, way_down, way_down_within, start_child}
+use Rattle.chart_meaning.specs.Tree.{ancestors, ancestors_within, start_descendants, start_descendants_within, start_child}
 
 pub parent_below : (states : List State) → IsTree states → (s p : ℕ) → parent_of states s ≡ Some p → (p < s) × (s < length states)
 parent_below states tree s p e =
@@ -25,12 +25,12 @@ parent_read states s state g = ap (option_and_then (λ (x : State). x.parent)) g
 pub record IsWalkingOut (states : List State) (start : ℕ) (way : List ℕ) (at : Option ℕ) : Type 0 where
   pub room : ℕ
   pub size : room + length way ≡ 8
-  pub goes : way ++ option_map_or (way_out_within room states) at [] ≡ way_out states start
+  pub goes : way ++ option_map_or (ancestors_within room states) at [] ≡ ancestors states start
   pub depth : option_map_or (is_within_depth room states) at true ≡ true
   pub inside : (s : ℕ) → at ≡ Some s → s < length states
 
 pub walking_out-start : (states : List State) (start : ℕ) → IsTree states → start < length states → IsWalkingOut states start [] (Some start)
-unfolding way_out
+unfolding ancestors
 walking_out-start states start tree h = record {
   room = 8;
   size = refl;
@@ -47,13 +47,13 @@ pub walking_out-room : (states : List State) (start : ℕ) (way : List ℕ) (s :
 walking_out-room states start way s w = let h = within-room w.room states s w.depth in let size = w.size in omega arith
 
 walked : (states : List State) (start : ℕ) (way : List ℕ) (s room : ℕ) → IsTree states → room + length way ≡ 8
-    → way ++ way_out_within room states s ≡ way_out states start → is_within_depth room states s ≡ true
+    → way ++ ancestors_within room states s ≡ ancestors states start → is_within_depth room states s ≡ true
     → IsWalkingOut states start (way ++ s ∷ []) (parent_of states s)
 walked states start way s zero tree size goes depth = absurd (false≢true depth)
 walked states start way s (suc room) tree size goes depth = record {
   room = room;
   size = let n = length_push way s in omega arith;
-  goes = append_assoc way (s ∷ []) (option_map_or (way_out_within room states) (parent_of states s) []) ∙ goes;
+  goes = append_assoc way (s ∷ []) (option_map_or (ancestors_within room states) (parent_of states s) []) ∙ goes;
   depth = depth;
   inside = λ p e. let b = parent_below states tree s p e in omega arith;
 }
@@ -62,7 +62,7 @@ pub walking_out-more : (states : List State) (start : ℕ) (way : List ℕ) (s :
     → IsWalkingOut states start way (Some s) → IsWalkingOut states start (way ++ s ∷ []) (parent_of states s)
 walking_out-more states start way s tree w = walked states start way s w.room tree w.size w.goes w.depth
 
-pub walking_out-end : (states : List State) (start : ℕ) (way : List ℕ) → IsWalkingOut states start way None → way ≡ way_out states start
+pub walking_out-end : (states : List State) (start : ℕ) (way : List ℕ) → IsWalkingOut states start way None → way ≡ ancestors states start
 walking_out-end states start way w = sym (append-nil way) ∙ w.goes
 
 pub child_parent : (s : ℕ) (o : Option ℕ) → option_map_or (λ (parent : ℕ). parent == s) o false ≡ true → o ≡ Some s
@@ -91,11 +91,11 @@ pub record IsWalkingDown (states : List State) (start : ℕ) (way : List ℕ) (a
   pub inside : state < length states
   pub size : room + length way ≡ 8
   pub next : at ≡ start_child states state
-  pub goes : way ++ way_down_within room states state ≡ way_down states start
+  pub goes : way ++ start_descendants_within room states state ≡ start_descendants states start
   pub deep : is_within_depth (length way) states state ≡ false
 
 pub walking_down-start : (states : List State) (start : ℕ) → start < length states → IsWalkingDown states start [] (start_child states start)
-unfolding way_down
+unfolding start_descendants
 walking_down-start states start h = record { state = start; room = 8; inside = h; size = refl; next = refl; goes = refl; deep = refl }
 
 shallow : (states : List State) (s n : ℕ) → IsTree states → s < length states → is_within_depth n states s ≡ false → n ≢ 8
@@ -106,7 +106,7 @@ walking_down-room states start way at tree w = let h = shallow states w.state (l
 
 went_down : (states : List State) (start : ℕ) (way : List ℕ) (state room child : ℕ) → IsTree states
     → room + length way ≡ 8 → length way < 8 → start_child states state ≡ Some child
-    → way ++ way_down_within room states state ≡ way_down states start → is_within_depth (length way) states state
+    → way ++ start_descendants_within room states state ≡ start_descendants states start → is_within_depth (length way) states state
     ≡ false → IsWalkingDown states start (way ++ child ∷ []) (start_child states child)
 went_down states start way state zero child tree size few e goes deep = absurd (omega arith)
 went_down states start way state (suc room) child tree size few e goes deep =
@@ -117,8 +117,8 @@ went_down states start way state (suc room) child tree size few e goes deep =
       inside = p.0;
       size = let n = length_push way child in omega arith;
       next = refl;
-      goes = append_assoc way (child ∷ []) (way_down_within room states child)
-          ∙ ap (λ o. way ++ option_map_or (λ (c : ℕ). c ∷ way_down_within room states c) o []) (sym e) ∙ goes;
+      goes = append_assoc way (child ∷ []) (start_descendants_within room states child)
+          ∙ ap (λ o. way ++ option_map_or (λ (c : ℕ). c ∷ start_descendants_within room states c) o []) (sym e) ∙ goes;
       deep = let n : length (way ++ child ∷ []) ≡ suc (length way) =
           omega (arith, length_push way child) in
           rw n (ap (λ o. option_map_or (is_within_depth (length way) states) o true) p.1 ∙ deep);
@@ -131,16 +131,16 @@ walking_down-more states start way child tree w =
     went_down states start way w.state w.room child tree w.size
     (walking_down-room states start way (Some child) tree w) (sym w.next) w.goes w.deep
 
-way_down_none : (states : List State) (s room : ℕ) → start_child states s ≡ None → way_down_within room states s ≡ []
-way_down_none states s zero e = refl
-way_down_none states s (suc room) e = ap (λ o. option_map_or (λ (c : ℕ). c ∷ way_down_within room states c) o []) e
+start_descendants_none : (states : List State) (s room : ℕ) → start_child states s ≡ None → start_descendants_within room states s ≡ []
+start_descendants_none states s zero e = refl
+start_descendants_none states s (suc room) e = ap (λ o. option_map_or (λ (c : ℕ). c ∷ start_descendants_within room states c) o []) e
 
-pub walking_down-end : (states : List State) (start : ℕ) (way : List ℕ) → IsWalkingDown states start way None → way ≡ way_down states start
-walking_down-end states start way w = sym (append-nil way) ∙ ap (λ rest. way ++ rest) (sym (way_down_none states w.state w.room (sym w.next))) ∙ w.goes
+pub walking_down-end : (states : List State) (start : ℕ) (way : List ℕ) → IsWalkingDown states start way None → way ≡ start_descendants states start
+walking_down-end states start way w = sym (append-nil way) ∙ ap (λ rest. way ++ rest) (sym (start_descendants_none states w.state w.room (sym w.next))) ∙ w.goes
 
-pub way_out-some : (states : List State) (s : ℕ) → 0 < length (way_out states s)
-unfolding way_out
-way_out-some states s = omega arith
+pub ancestors-some : (states : List State) (s : ℕ) → 0 < length (ancestors states s)
+unfolding ancestors
+ancestors-some states s = omega arith
 
 -- the states before one, as far as the first i are read
 pub record IsTakenBefore (container : ℕ) (way items : List ℕ) (i : ℕ) (below : List ℕ) : Type 0 where
@@ -192,38 +192,38 @@ IsTakenBefore-end container way items i below h t =
 
 -- a depth that holds all of a way is enough
 out_enough : (states : List State) (depth : ℕ) (o : Option ℕ)
-    → ((p : ℕ) → is_within_depth depth states p ≡ true → way_out_within depth states p ≡ way_out_within (suc depth)
+    → ((p : ℕ) → is_within_depth depth states p ≡ true → ancestors_within depth states p ≡ ancestors_within (suc depth)
     states p) → option_map_or (is_within_depth depth states) o true ≡ true
-    → option_map_or (way_out_within depth states) o [] ≡ option_map_or (way_out_within (suc depth) states) o []
+    → option_map_or (ancestors_within depth states) o [] ≡ option_map_or (ancestors_within (suc depth) states) o []
 out_enough states depth None each h = refl
 out_enough states depth (Some p) each h = each p h
 
-way_out_enough : (states : List State) (depth s : ℕ) → is_within_depth depth states s ≡ true
-    → way_out_within depth states s ≡ way_out_within (suc depth) states s
-way_out_enough states zero s h = absurd (false≢true h)
-way_out_enough states (suc depth) s h = ap (λ rest. s ∷ rest) (out_enough states depth (parent_of states s) (λ p k. way_out_enough states depth p k) h)
+ancestors_enough : (states : List State) (depth s : ℕ) → is_within_depth depth states s ≡ true
+    → ancestors_within depth states s ≡ ancestors_within (suc depth) states s
+ancestors_enough states zero s h = absurd (false≢true h)
+ancestors_enough states (suc depth) s h = ap (λ rest. s ∷ rest) (out_enough states depth (parent_of states s) (λ p k. ancestors_enough states depth p k) h)
 
-pub way_out-whole : (states : List State) → IsTree states → (s : ℕ) → s < length states
-    → way_out states s ≡ s ∷ option_map_or (way_out states) (parent_of states s) []
-unfolding way_out
-way_out-whole states tree s h = way_out_enough states 8 s (tree.depth s h)
+pub ancestors-whole : (states : List State) → IsTree states → (s : ℕ) → s < length states
+    → ancestors states s ≡ s ∷ option_map_or (ancestors states) (parent_of states s) []
+unfolding ancestors
+ancestors-whole states tree s h = ancestors_enough states 8 s (tree.depth s h)
 
 down_enough : (states : List State) (s room : ℕ) (o : Option ℕ)
-    → ((child : ℕ) → o ≡ Some child → way_down_within room states child ≡ way_down_within (suc room) states child)
-    → option_map_or (λ child. child ∷ way_down_within room states child) o []
-    ≡ option_map_or (λ child. child ∷ way_down_within (suc room) states child) o []
+    → ((child : ℕ) → o ≡ Some child → start_descendants_within room states child ≡ start_descendants_within (suc room) states child)
+    → option_map_or (λ child. child ∷ start_descendants_within room states child) o []
+    ≡ option_map_or (λ child. child ∷ start_descendants_within (suc room) states child) o []
 down_enough states s room None each = refl
 down_enough states s room (Some child) each = ap (λ rest. child ∷ rest) (each child refl)
 
-way_down_enough : (states : List State) → IsTree states → (room n s : ℕ) → room + n ≡ 8 → s < length states
-    → is_within_depth n states s ≡ false → way_down_within room states s ≡ way_down_within (suc room) states s
-way_down_enough states tree zero n s size h deep = absurd (shallow states s n tree h deep (omega arith))
-way_down_enough states tree (suc room) n s size h deep = down_enough states s room (start_child states s) (λ child e.
+start_descendants_enough : (states : List State) → IsTree states → (room n s : ℕ) → room + n ≡ 8 → s < length states
+    → is_within_depth n states s ≡ false → start_descendants_within room states s ≡ start_descendants_within (suc room) states s
+start_descendants_enough states tree zero n s size h deep = absurd (shallow states s n tree h deep (omega arith))
+start_descendants_enough states tree (suc room) n s size h deep = down_enough states s room (start_child states s) (λ child e.
     let p = start_child-parent states s child e in
     let deeper : is_within_depth (suc n) states child ≡ false = ap (λ (o : Option ℕ). option_map_or (is_within_depth n states) o true) p.1 ∙ deep in
-    way_down_enough states tree room (suc n) child (omega arith) p.0 deeper)
+    start_descendants_enough states tree room (suc n) child (omega arith) p.0 deeper)
 
-pub way_down-whole : (states : List State) → IsTree states → (s : ℕ) → s < length states
-    → way_down states s ≡ option_map_or (λ child. child ∷ way_down states child) (start_child states s) []
-unfolding way_down
-way_down-whole states tree s h = way_down_enough states tree 8 0 s refl h refl
+pub start_descendants-whole : (states : List State) → IsTree states → (s : ℕ) → s < length states
+    → start_descendants states s ≡ option_map_or (λ child. child ∷ start_descendants states child) (start_child states s) []
+unfolding start_descendants
+start_descendants-whole states tree s h = start_descendants_enough states tree 8 0 s refl h refl

@@ -25,11 +25,11 @@ use Rattle.chart_meaning.specs.Configuration.{Configuration}
 use Rattle.chart_meaning.specs.IsConfiguration.{AreLastChildren, AreValues, IsConfiguration}
 use Rattle.chart_meaning.specs.Step.{active_states, enter, enter_all, entered_by, entry_of, exit_all, exit_of, exited_by, firing, is_enabled_in}
 use Rattle.chart_meaning.specs.Step.{is_remembering, last_child, next_of, remember, start_of, declared, go_to, take_transition, way_below}
-use Rattle.chart_meaning.specs.Tree.{innermost_container, way_down, way_out}
+use Rattle.chart_meaning.specs.Tree.{least_common_proper_ancestor, start_descendants, ancestors}
 use Rattle.chart_meaning.specs.Ways.{AreStates, IsActiveIn, IsUpFrom}
 use Rattle.chart_meaning.proofs.Acting.{AreValues-memory, AreValues-output, AreWithin-padded, act-memory, act-output, declared_memory, All_found}
 use Rattle.chart_meaning.proofs.Leaving.{AreLastChildren-same, AreLastChildren-set, active_in, actions_of, entry_found, exit_found, next_up, not_remembering}
-use Rattle.chart_meaning.proofs.Moving.{AreStates-entered, AreStates-way_down, AreStates-way_out, All-below, IsUpFrom-below, IsUpFrom-way_out}
+use Rattle.chart_meaning.proofs.Moving.{AreStates-entered, AreStates-start_descendants, AreStates-ancestors, All-below, IsUpFrom-below, IsUpFrom-ancestors}
 use Rattle.chart_meaning.proofs.Moving.{first_counted, run-last}
 use Rattle.chart_meaning.proofs.Starting.{AreLastChildren-declared, AreValues-declared, IsConfiguration-started}
 use Rattle.chart_meaning.proofs.Taking.{All_contained, IsConfiguration-entered, IsConfiguration-run, last_child-inside, target_inside}
@@ -137,15 +137,15 @@ exited_all chart leaf (s ∷ way) child c none up all x =
 -- the states below a target
 states_recalled : (chart : Chart) (c : Configuration) (target : ℕ) (o : Option ℕ) → last_child c target ≡ o
     → AreLastChildren chart c
-    → AreStates chart.states (option_map_or (λ child. child ∷ way_down chart.states child) o [])
+    → AreStates chart.states (option_map_or (λ child. child ∷ start_descendants chart.states child) o [])
 states_recalled chart c target None e last = All-nil (λ s. s < length chart.states)
 states_recalled chart c target (Some child) e last =
-    All-cons (λ s. s < length chart.states) child (way_down chart.states child)
-    (last_child-inside chart c target child last e) (AreStates-way_down chart.states child)
+    All-cons (λ s. s < length chart.states) child (start_descendants chart.states child)
+    (last_child-inside chart c target child last e) (AreStates-start_descendants chart.states child)
 
 states_below_target : (chart : Chart) (c : Configuration) (target : ℕ) (history : Bool) → AreLastChildren chart c
     → AreStates chart.states (way_below chart.states history target c)
-states_below_target chart c target false last = AreStates-way_down chart.states target
+states_below_target chart c target false last = AreStates-start_descendants chart.states target
 states_below_target chart c target true last = states_recalled chart c target (last_child c target) refl last
 
 -- a transition with a target
@@ -154,9 +154,9 @@ gone_to : (chart : Chart) (t : Transition) (target : ℕ) (c : Configuration) �
 gone_to chart t target c h e is =
     let states = chart.states in
     let way = exited_by states t.source target c.leaf in
-    let container = innermost_container states t.source target in
-    let up = IsUpFrom-below states container (Some c.leaf) (way_out states c.leaf) (IsUpFrom-way_out states c.leaf) in
-    let all = All-below (λ s. s < length states) container (way_out states c.leaf) (AreStates-way_out states chart.kept.tree c.leaf is.state) in
+    let container = least_common_proper_ancestor states t.source target in
+    let up = IsUpFrom-below states container (Some c.leaf) (ancestors states c.leaf) (IsUpFrom-ancestors states c.leaf) in
+    let all = All-below (λ s. s < length states) container (ancestors states c.leaf) (AreStates-ancestors states chart.kept.tree c.leaf is.state) in
     let out = exited_all chart c.leaf way None c (not_remembering chart c.leaf is.childless) up all (record { values = is.values; last = is.last }) in
     let left = exit_all chart None way c in
     let d = run chart.memories t.effect left in
@@ -227,14 +227,14 @@ placed p (x ∷ xs) i e = (position-Some p (x ∷ xs) i x e).0
 
 started : (chart : Chart) (o : Option ℕ) → position is_top_start chart.states ≡ o
     → IsConfiguration chart
-    (option_map_or (λ top. enter_all chart (top ∷ way_down chart.states top) (declared chart top)) o (declared chart 0))
+    (option_map_or (λ top. enter_all chart (top ∷ start_descendants chart.states top) (declared chart top)) o (declared chart 0))
 started chart None e = absurd (first_counted is_top_start chart.states chart.kept.tree.top e)
 started chart (Some top) e =
     let inside = placed is_top_start chart.states top e in
     let first = enter chart top (declared chart top) in
-    let values = values_enter_all chart (way_down chart.states top) first (AreStates-way_down chart.states top)
+    let values = values_enter_all chart (start_descendants chart.states top) first (AreStates-start_descendants chart.states top)
     (values_enter chart top (declared chart top) inside (AreValues-declared chart top)) in
-    IsConfiguration-started chart top (declared chart top) first (enter_all chart (way_down chart.states top) first)
+    IsConfiguration-started chart top (declared chart top) first (enter_all chart (start_descendants chart.states top) first)
     inside (AreLastChildren-declared chart top) values refl refl
 
 pub IsConfiguration-start : (chart : Chart) → IsConfiguration chart (start_of chart)

@@ -17,7 +17,7 @@ use Rattle.chart_model.specs.States.{has_children}
 use Rattle.chart_meaning.specs.declared.rows.Row.{Row}
 use Rattle.chart_meaning.specs.Step.{firing, is_guard_true}
 use Rattle.chart_meaning.specs.Rows.{candidates, AreRows, AreWaysDown, IsRowOf, IsRowThatFires}
-use Rattle.chart_meaning.specs.Tree.{way_down, way_out}
+use Rattle.chart_meaning.specs.Tree.{start_descendants, ancestors}
 
 kept_at : {X : Type 0} (p q : X → Bool) (x : X) (xs : List X) (b : Bool)
     → find p (filter q xs) ≡ find (λ x. q x && p x) xs → find p (cond b (x ∷ filter q xs) (filter q xs))
@@ -43,14 +43,14 @@ find-candidates transitions vector memory (s ∷ outer) =
 pub record IsScanning (chart : Chart) (leaf : ℕ) (vector memory : List ℤ) (rows : List Row) (i : ℕ) : Type 0 where
   pub rest : List Transition
   pub zip : AllZip (IsRowOf chart leaf) rest (drop i rows)
-  pub goes : find (is_guard_true vector memory) rest ≡ firing chart.transitions vector memory (way_out chart.states leaf)
+  pub goes : find (is_guard_true vector memory) rest ≡ firing chart.transitions vector memory (ancestors chart.states leaf)
 
 pub IsScanning-start : (chart : Chart) (leaf : ℕ) (vector memory : List ℤ) (rows : List Row) → AreRows chart leaf rows
     → IsScanning chart leaf vector memory rows 0
 IsScanning-start chart leaf vector memory rows are = record {
-  rest = candidates chart.transitions (way_out chart.states leaf);
+  rest = candidates chart.transitions (ancestors chart.states leaf);
   zip = are;
-  goes = find-candidates chart.transitions vector memory (way_out chart.states leaf);
+  goes = find-candidates chart.transitions vector memory (ancestors chart.states leaf);
 }
 
 -- the next row, and its transition
@@ -60,11 +60,11 @@ pub record IsNextRow (chart : Chart) (leaf : ℕ) (vector memory : List ℤ) (ro
   pub rest : List Transition
   pub zip : AllZip (IsRowOf chart leaf) rest (drop (i + 1) rows)
   pub goes : cond (is_guard_true vector memory transition) (Some transition) (find (is_guard_true vector memory) rest)
-      ≡ firing chart.transitions vector memory (way_out chart.states leaf)
+      ≡ firing chart.transitions vector memory (ancestors chart.states leaf)
 
 next_row : (chart : Chart) (leaf : ℕ) (vector memory : List ℤ) (rows : List Row) (i : ℕ) (row : Row)
     (rest : List Transition) → AllZip (IsRowOf chart leaf) rest (row ∷ drop (i + 1) rows)
-    → find (is_guard_true vector memory) rest ≡ firing chart.transitions vector memory (way_out chart.states leaf)
+    → find (is_guard_true vector memory) rest ≡ firing chart.transitions vector memory (ancestors chart.states leaf)
     → IsNextRow chart leaf vector memory rows i row
 next_row chart leaf vector memory rows i row [] zip goes = absurd zip
 next_row chart leaf vector memory rows i row (t ∷ rest) zip goes = record { transition = t; is = zip.0; rest = rest; zip = zip.1; goes = goes }
@@ -94,7 +94,7 @@ IsScanning-more chart leaf vector memory rows i row n fails = record {
 
 pub IsScanning-found : (chart : Chart) (leaf : ℕ) (vector memory : List ℤ) (rows : List Row) (i : ℕ) (row : Row)
     (n : IsNextRow chart leaf vector memory rows i row) → is_guard_true vector memory n.transition ≡ true
-    → IsRowThatFires chart leaf (firing chart.transitions vector memory (way_out chart.states leaf)) (Some row)
+    → IsRowThatFires chart leaf (firing chart.transitions vector memory (ancestors chart.states leaf)) (Some row)
 IsScanning-found chart leaf vector memory rows i row n holds =
     (n.transition, (sym n.goes ∙ ap (λ b. cond b (Some n.transition) (find (is_guard_true vector memory) n.rest)) holds, n.is))
 
@@ -104,7 +104,7 @@ none_left chart leaf vector memory [] zip = refl
 none_left chart leaf vector memory (t ∷ rest) zip = absurd zip
 
 pub IsScanning-end : (chart : Chart) (leaf : ℕ) (vector memory : List ℤ) (rows : List Row) (i : ℕ) → length rows ≤ i
-    → IsScanning chart leaf vector memory rows i → firing chart.transitions vector memory (way_out chart.states leaf)
+    → IsScanning chart leaf vector memory rows i → firing chart.transitions vector memory (ancestors chart.states leaf)
     ≡ None
 IsScanning-end chart leaf vector memory rows i h s =
     sym s.goes ∙ none_left chart leaf vector memory s.rest
@@ -242,10 +242,10 @@ IsListing-push chart i all rows are x = record {
 
 -- a way down that is kept
 pub way_kept : (states : List State) (ways : List (List ℕ)) (s : ℕ) (way : List ℕ) → AreWaysDown states ways
-    → s < length states → way ≡ get_or ways s way → way ≡ way_down states s
+    → s < length states → way ≡ get_or ways s way → way ≡ start_descendants states s
 way_kept states ways s way are h is =
-    is ∙ ap (λ (ws : List (List ℕ)). get_or ws s way) are ∙ get_or-map-range_with_len (way_down states) 0
+    is ∙ ap (λ (ws : List (List ℕ)). get_or ws s way) are ∙ get_or-map-range_with_len (start_descendants states) 0
     (length states) s s way h (omega arith)
 
 pub way_inside : (states : List State) (ways : List (List ℕ)) (s : ℕ) → AreWaysDown states ways → s < length states → s < length ways
-way_inside states ways s are h = let n = ap length are in let m = length-map-range_with_len (way_down states) 0 (length states) in omega arith
+way_inside states ways s are h = let n = ap length are in let m = length-map-range_with_len (start_descendants states) 0 (length states) in omega arith

@@ -19,7 +19,7 @@ use Rattle.chart_model.specs.States.{IsTree, parent_of, has_children, is_within_
 use Rattle.chart_meaning.specs.Configuration.{Configuration}
 use Rattle.chart_meaning.specs.Actions.{act, assign, run}
 use Rattle.chart_meaning.specs.Step.{enter, enter_all, entered_by, entry_of}
-use Rattle.chart_meaning.specs.Tree.{way_out, way_out_within, way_down, way_down_within, start_child, states_below, containers, innermost_container}
+use Rattle.chart_meaning.specs.Tree.{ancestors, ancestors_within, start_descendants, start_descendants_within, start_child, states_below, proper_ancestors, least_common_proper_ancestor}
 use Rattle.chart_meaning.specs.IsConfiguration.{AreValues}
 use Rattle.chart_meaning.specs.Ways.{AreStates, IsUpFrom}
 use Rattle.chart_meaning.proofs.Climbing.{parent_below, start_child-parent}
@@ -64,43 +64,43 @@ reached-append s (x ∷ xs) ys = reached-append x xs ys
 
 -- the states on a way out are at most the first
 outer_le : (states : List State) (depth s : ℕ) (o : Option ℕ)
-    → ((p : ℕ) → p < s → All (λ x. x ≤ p) (way_out_within depth states p)) → ((p : ℕ) → o ≡ Some p → p < s)
-    → All (λ x. x < s) (option_map_or (way_out_within depth states) o [])
+    → ((p : ℕ) → p < s → All (λ x. x ≤ p) (ancestors_within depth states p)) → ((p : ℕ) → o ≡ Some p → p < s)
+    → All (λ x. x < s) (option_map_or (ancestors_within depth states) o [])
 outer_le states depth s None each below = All-nil (λ x. x < s)
 outer_le states depth s (Some p) each below = let h =
-    below p refl in All-weaker (λ x. x ≤ p) (λ x. x < s) (λ x le. omega arith) (way_out_within depth states p)
+    below p refl in All-weaker (λ x. x ≤ p) (λ x. x < s) (λ x le. omega arith) (ancestors_within depth states p)
     (each p h)
 
-pub way_out_within-le : (states : List State) → IsTree states → (depth s : ℕ) → All (λ x. x ≤ s) (way_out_within depth states s)
-way_out_within-le states tree zero s = All-nil (λ x. x ≤ s)
-way_out_within-le states tree (suc depth) s =
-    let rest = outer_le states depth s (parent_of states s) (λ p h. way_out_within-le states tree depth p) (λ p e. (parent_below states tree s p e).0) in
-    All-cons (λ x. x ≤ s) s (option_map_or (way_out_within depth states) (parent_of states s) []) (omega arith)
+pub ancestors_within-le : (states : List State) → IsTree states → (depth s : ℕ) → All (λ x. x ≤ s) (ancestors_within depth states s)
+ancestors_within-le states tree zero s = All-nil (λ x. x ≤ s)
+ancestors_within-le states tree (suc depth) s =
+    let rest = outer_le states depth s (parent_of states s) (λ p h. ancestors_within-le states tree depth p) (λ p e. (parent_below states tree s p e).0) in
+    All-cons (λ x. x ≤ s) s (option_map_or (ancestors_within depth states) (parent_of states s) []) (omega arith)
     (All-weaker (λ x. x < s) (λ x. x ≤ s) (λ x lt. omega arith) _ rest)
 
-pub containers-lt : (states : List State) → IsTree states → (s : ℕ) → All (λ x. x < s) (containers states s)
-unfolding way_out
-containers-lt states tree s = outer_le states 7 s (parent_of states s) (λ p h. way_out_within-le states tree 7 p) (λ p e. (parent_below states tree s p e).0)
+pub proper_ancestors-lt : (states : List State) → IsTree states → (s : ℕ) → All (λ x. x < s) (proper_ancestors states s)
+unfolding ancestors
+proper_ancestors-lt states tree s = outer_le states 7 s (parent_of states s) (λ p h. ancestors_within-le states tree 7 p) (λ p e. (parent_below states tree s p e).0)
 
-pub AreStates-way_out : (states : List State) → IsTree states → (s : ℕ) → s < length states → AreStates states (way_out states s)
-unfolding way_out
-AreStates-way_out states tree s h =
-    All-weaker (λ x. x ≤ s) (λ x. x < length states) (λ x le. omega arith) (way_out_within 8 states s)
-    (way_out_within-le states tree 8 s)
+pub AreStates-ancestors : (states : List State) → IsTree states → (s : ℕ) → s < length states → AreStates states (ancestors states s)
+unfolding ancestors
+AreStates-ancestors states tree s h =
+    All-weaker (λ x. x ≤ s) (λ x. x < length states) (λ x le. omega arith) (ancestors_within 8 states s)
+    (ancestors_within-le states tree 8 s)
 
 up_at : (states : List State) (depth : ℕ) (o : Option ℕ)
-    → ((p : ℕ) → IsUpFrom states (Some p) (way_out_within depth states p))
-    → IsUpFrom states o (option_map_or (way_out_within depth states) o [])
+    → ((p : ℕ) → IsUpFrom states (Some p) (ancestors_within depth states p))
+    → IsUpFrom states o (option_map_or (ancestors_within depth states) o [])
 up_at states depth None each = tt
 up_at states depth (Some p) each = each p
 
-way_out_within-up : (states : List State) (depth s : ℕ) → IsUpFrom states (Some s) (way_out_within depth states s)
-way_out_within-up states zero s = tt
-way_out_within-up states (suc depth) s = (refl, up_at states depth (parent_of states s) (λ p. way_out_within-up states depth p))
+ancestors_within-up : (states : List State) (depth s : ℕ) → IsUpFrom states (Some s) (ancestors_within depth states s)
+ancestors_within-up states zero s = tt
+ancestors_within-up states (suc depth) s = (refl, up_at states depth (parent_of states s) (λ p. ancestors_within-up states depth p))
 
-pub IsUpFrom-way_out : (states : List State) (s : ℕ) → IsUpFrom states (Some s) (way_out states s)
-unfolding way_out
-IsUpFrom-way_out states s = way_out_within-up states 8 s
+pub IsUpFrom-ancestors : (states : List State) (s : ℕ) → IsUpFrom states (Some s) (ancestors states s)
+unfolding ancestors
+IsUpFrom-ancestors states s = ancestors_within-up states 8 s
 
 IsUpFrom-take : (states : List State) (n : ℕ) (at : Option ℕ) (way : List ℕ) → IsUpFrom states at way → IsUpFrom states at (take n way)
 IsUpFrom-take states zero at way h = tt
@@ -126,26 +126,26 @@ pub AreStates-entered : (states : List State) → IsTree states → (source targ
     → AreStates states (entered_by states source target)
 AreStates-entered states tree source target h =
     let P : ℕ → Type 0 = λ s. s < length states in
-    All-reverse P (states_below (innermost_container states source target) (way_out states target))
-    (All-below P (innermost_container states source target) (way_out states target)
-    (AreStates-way_out states tree target h))
+    All-reverse P (states_below (least_common_proper_ancestor states source target) (ancestors states target))
+    (All-below P (least_common_proper_ancestor states source target) (ancestors states target)
+    (AreStates-ancestors states tree target h))
 
 -- the states on a way down
 down_each : (states : List State) (room s : ℕ) (o : Option ℕ) → ((child : ℕ) → o ≡ Some child → child < length states)
-    → ((child : ℕ) → AreStates states (way_down_within room states child))
-    → AreStates states (option_map_or (λ child. child ∷ way_down_within room states child) o [])
+    → ((child : ℕ) → AreStates states (start_descendants_within room states child))
+    → AreStates states (option_map_or (λ child. child ∷ start_descendants_within room states child) o [])
 down_each states room s None inside rest = All-nil (λ x. x < length states)
-down_each states room s (Some child) inside rest = All-cons (λ x. x < length states) child (way_down_within room states child) (inside child refl) (rest child)
+down_each states room s (Some child) inside rest = All-cons (λ x. x < length states) child (start_descendants_within room states child) (inside child refl) (rest child)
 
-AreStates-way_down_within : (states : List State) (room s : ℕ) → AreStates states (way_down_within room states s)
-AreStates-way_down_within states zero s = All-nil (λ x. x < length states)
-AreStates-way_down_within states (suc room) s =
+AreStates-start_descendants_within : (states : List State) (room s : ℕ) → AreStates states (start_descendants_within room states s)
+AreStates-start_descendants_within states zero s = All-nil (λ x. x < length states)
+AreStates-start_descendants_within states (suc room) s =
     down_each states room s (start_child states s) (λ child e. (start_child-parent states s child e).0)
-    (λ child. AreStates-way_down_within states room child)
+    (λ child. AreStates-start_descendants_within states room child)
 
-pub AreStates-way_down : (states : List State) (s : ℕ) → AreStates states (way_down states s)
-unfolding way_down
-AreStates-way_down states s = AreStates-way_down_within states 8 s
+pub AreStates-start_descendants : (states : List State) (s : ℕ) → AreStates states (start_descendants states s)
+unfolding start_descendants
+AreStates-start_descendants states s = AreStates-start_descendants_within states 8 s
 
 -- an element that is counted has a first place
 counted_at : {X : Type 0} (p : X → Bool) (x : X) (xs : List X) (b : Bool) → p x ≡ b
@@ -175,24 +175,24 @@ childless states tree s none = childless_from states tree s (has_children states
 
 -- a way down ends in a state without children
 ends_at : (states : List State) → IsTree states → (room s : ℕ) (o : Option ℕ) → start_child states s ≡ o
-    → ((child : ℕ) → o ≡ Some child → has_children states (reached child (way_down_within room states child)) ≡ false)
-    → has_children states (reached s (option_map_or (λ child. child ∷ way_down_within room states child) o [])) ≡ false
+    → ((child : ℕ) → o ≡ Some child → has_children states (reached child (start_descendants_within room states child)) ≡ false)
+    → has_children states (reached s (option_map_or (λ child. child ∷ start_descendants_within room states child) o [])) ≡ false
 ends_at states tree room s None e each = childless states tree s e
 ends_at states tree room s (Some child) e each = each child refl
 
-way_down_within-childless : (states : List State) → IsTree states → (room n s : ℕ) → room + n ≡ 8 → s < length states
-    → is_within_depth n states s ≡ false → has_children states (reached s (way_down_within room states s)) ≡ false
-way_down_within-childless states tree zero n s size h deep =
+start_descendants_within-childless : (states : List State) → IsTree states → (room n s : ℕ) → room + n ≡ 8 → s < length states
+    → is_within_depth n states s ≡ false → has_children states (reached s (start_descendants_within room states s)) ≡ false
+start_descendants_within-childless states tree zero n s size h deep =
     absurd (false≢true (let e : n ≡ 8 = omega arith in sym deep ∙ ap (λ (m : ℕ). is_within_depth m states s) e
     ∙ tree.depth s h))
-way_down_within-childless states tree (suc room) n s size h deep =
+start_descendants_within-childless states tree (suc room) n s size h deep =
     ends_at states tree room s (start_child states s) refl (λ child e.
     let p = start_child-parent states s child e in
-    way_down_within-childless states tree room (suc n) child (omega arith) p.0 (ap (λ o. option_map_or (is_within_depth n states) o true) p.1 ∙ deep))
+    start_descendants_within-childless states tree room (suc n) child (omega arith) p.0 (ap (λ o. option_map_or (is_within_depth n states) o true) p.1 ∙ deep))
 
-pub way_down-childless : (states : List State) → IsTree states → (s : ℕ) → s < length states → has_children states (reached s (way_down states s)) ≡ false
-unfolding way_down
-way_down-childless states tree s h = way_down_within-childless states tree 8 0 s refl h refl
+pub start_descendants-childless : (states : List State) → IsTree states → (s : ℕ) → s < length states → has_children states (reached s (start_descendants states s)) ≡ false
+unfolding start_descendants
+start_descendants-childless states tree s h = start_descendants_within-childless states tree 8 0 s refl h refl
 
 pub reached-inside : (states : List State) (s : ℕ) (way : List ℕ) → s < length states → AreStates states way → reached s way < length states
 reached-inside states s [] h all = h

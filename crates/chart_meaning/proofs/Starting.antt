@@ -13,10 +13,10 @@ use Rattle.chart_model.specs.Chart.{IsMemory}
 use Rattle.chart_model.specs.States.{is_start_child_of}
 use Rattle.chart_meaning.specs.Configuration.{Configuration}
 use Rattle.chart_meaning.specs.Step.{declared, enter, enter_all, first_last, is_remembering}
-use Rattle.chart_meaning.specs.Tree.{start_child, way_down}
+use Rattle.chart_meaning.specs.Tree.{start_child, start_descendants}
 use Rattle.chart_meaning.specs.IsConfiguration.{AreLastChildren, AreValues, IsConfiguration, IsInMemory, IsLastOf}
 use Rattle.chart_meaning.proofs.Climbing.{start_child-parent}
-use Rattle.chart_meaning.proofs.Moving.{AreStates-way_down, enter_all-last, enter_all-leaf, first_counted, reached, reached-inside, way_down-childless}
+use Rattle.chart_meaning.proofs.Moving.{AreStates-start_descendants, enter_all-last, enter_all-leaf, first_counted, reached, reached-inside, start_descendants-childless}
 use Rattle.chart_meaning.proofs.Leaving.{AreLastChildren-same, remembering-children}
 
 -- the first i places hold their values, the others the filler
@@ -164,14 +164,14 @@ AreValues-declared chart s = record {
 -- the starting configuration
 pub IsConfiguration-started : (chart : Chart) (top : ℕ) (c d e : Configuration) → top < length chart.states
     → AreLastChildren chart c → AreValues chart e → d ≡ enter chart top c
-    → e ≡ enter_all chart (way_down chart.states top) d → IsConfiguration chart e
+    → e ≡ enter_all chart (start_descendants chart.states top) d → IsConfiguration chart e
 IsConfiguration-started chart top c d e h last values entered down =
-    let way = way_down chart.states top in
+    let way = start_descendants chart.states top in
     let whole : e ≡ enter_all chart (top ∷ way) c = down ∙ ap (enter_all chart way) entered in
     let leaf : e.leaf ≡ reached top way = ap (λ (x : Configuration). x.leaf) whole ∙ enter_all-leaf chart (top ∷ way) c in
     record {
-      state = rw leaf (reached-inside chart.states top way h (AreStates-way_down chart.states top));
-      childless = rw leaf (way_down-childless chart.states chart.kept.tree top h);
+      state = rw leaf (reached-inside chart.states top way h (AreStates-start_descendants chart.states top));
+      childless = rw leaf (start_descendants-childless chart.states chart.kept.tree top h);
       values = values;
       last = AreLastChildren-same chart c e (ap (λ (x : Configuration). x.last) whole ∙ enter_all-last chart (top ∷ way) c) last;
     }

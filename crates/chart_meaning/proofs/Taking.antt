@@ -18,12 +18,12 @@ use Rattle.chart_model.specs.Chart.{IsTransition}
 use Rattle.chart_model.specs.States.{IsTree, has_children, parent_of}
 use Rattle.chart_meaning.specs.Configuration.{Configuration}
 use Rattle.chart_meaning.specs.Actions.{run}
-use Rattle.chart_meaning.specs.Tree.{way_out, way_out_within, way_down, containers, innermost_container, states_below}
+use Rattle.chart_meaning.specs.Tree.{ancestors, ancestors_within, start_descendants, proper_ancestors, least_common_proper_ancestor, states_below}
 use Rattle.chart_meaning.specs.Step.{is_recall_of, is_remembering, last_child, way_below, entered_by, enter_all}
 use Rattle.chart_meaning.specs.IsConfiguration.{AreLastChildren, AreValues, IsConfiguration, IsLastOf}
 use Rattle.chart_meaning.proofs.Climbing.{parent_below}
-use Rattle.chart_meaning.proofs.Moving.{reached, reached-append, reached-inside, containers-lt, enter_all-leaf, enter_all-last, enter_all-append}
-use Rattle.chart_meaning.proofs.Moving.{run-leaf, run-last, AreStates-way_down, way_down-childless}
+use Rattle.chart_meaning.proofs.Moving.{reached, reached-append, reached-inside, proper_ancestors-lt, enter_all-leaf, enter_all-last, enter_all-append}
+use Rattle.chart_meaning.proofs.Moving.{run-leaf, run-last, AreStates-start_descendants, start_descendants-childless}
 use Rattle.chart_meaning.proofs.Leaving.{AreLastChildren-same, is_remembering-last}
 
 -- what stands in a chart's list keeps what each does
@@ -54,12 +54,12 @@ find-passes : {X : Type 0} (p : X → Bool) (xs : List X) (x : X) → find p xs 
 find-passes p [] x e = absurd cc
 find-passes p (y ∷ xs) x e = find_at p y xs x (p y) refl (find-passes p xs x) e
 
-pub innermost_container-lt : (states : List State) → IsTree states → (source target container : ℕ)
-    → innermost_container states source target ≡ Some container → container < target
-innermost_container-lt states tree source target container e =
-    let passes = find-passes (λ s. list_any (λ t. t == s) (containers states target)) (containers states source) container e in
-    let some = Any-from_list_any (λ (t : ℕ). t == container) (containers states target) passes in
-    let less = containers-lt states tree target some.0 some.1 some.2 in
+pub least_common_proper_ancestor-lt : (states : List State) → IsTree states → (source target container : ℕ)
+    → least_common_proper_ancestor states source target ≡ Some container → container < target
+least_common_proper_ancestor-lt states tree source target container e =
+    let passes = find-passes (λ s. list_any (λ t. t == s) (proper_ancestors states target)) (proper_ancestors states source) container e in
+    let some = Any-from_list_any (λ (t : ℕ). t == container) (proper_ancestors states target) passes in
+    let less = proper_ancestors-lt states tree target some.0 some.1 some.2 in
     let same : some.1 ≡ container = (Decides-eqb some.1 container).0 some.4 in
     let is = some.3 in
     omega arith
@@ -79,11 +79,11 @@ reached-reverse : (s target : ℕ) (below : List ℕ) → reached s (reverse (ta
 reached-reverse s target below = ap (reached s) (reverse-append (target ∷ []) below) ∙ reached-append s (reverse below) (target ∷ [])
 
 pub reached-entered : (states : List State) → IsTree states → (s source target : ℕ) → reached s (entered_by states source target) ≡ target
-unfolding way_out
+unfolding ancestors
 reached-entered states tree s source target =
-    let h = below_target states target (option_map_or (way_out_within 7 states) (parent_of states target) [])
-    (innermost_container states source target)
-    (λ container e. innermost_container-lt states tree source target container e) in
+    let h = below_target states target (option_map_or (ancestors_within 7 states) (parent_of states target) [])
+    (least_common_proper_ancestor states source target)
+    (λ container e. least_common_proper_ancestor-lt states tree source target container e) in
     ap (λ way. reached s (reverse way)) h.1 ∙ reached-reverse s target h.0
 
 -- the states entered below a target lead to a leaf
@@ -98,15 +98,15 @@ record IsLed (chart : Chart) (target : ℕ) (below : List ℕ) : Type 0 where
   inside : reached target below < length chart.states
   childless : has_children chart.states (reached target below) ≡ false
 
-led_down : (chart : Chart) (s : ℕ) → s < length chart.states → IsLed chart s (way_down chart.states s)
+led_down : (chart : Chart) (s : ℕ) → s < length chart.states → IsLed chart s (start_descendants chart.states s)
 led_down chart s h = record {
-  inside = reached-inside chart.states s (way_down chart.states s) h (AreStates-way_down chart.states s);
-  childless = way_down-childless chart.states chart.kept.tree s h;
+  inside = reached-inside chart.states s (start_descendants chart.states s) h (AreStates-start_descendants chart.states s);
+  childless = start_descendants-childless chart.states chart.kept.tree s h;
 }
 
 led_child : (chart : Chart) (c : Configuration) (target : ℕ) (o : Option ℕ) → AreLastChildren chart c
     → last_child c target ≡ o → o ≢ None
-    → IsLed chart target (option_map_or (λ child. child ∷ way_down chart.states child) o [])
+    → IsLed chart target (option_map_or (λ child. child ∷ start_descendants chart.states child) o [])
 led_child chart c target None last e some = absurd (some refl)
 led_child chart c target (Some child) last e some =
     let down = led_down chart child (last_child-inside chart c target child last e) in
@@ -159,7 +159,7 @@ pub way_below-same : (states : List State) (history : Bool) (target : ℕ) (c d 
     → way_below states history target d ≡ way_below states history target c
 way_below-same states false target c d e = refl
 way_below-same states true target c d e =
-    ap (λ (last : List (Option ℕ)). option_map_or (λ child. child ∷ way_down states child)
+    ap (λ (last : List (Option ℕ)). option_map_or (λ child. child ∷ start_descendants states child)
     (option_and_then (λ (o : Option ℕ). o) (slice_get last target)) []) e
 
 -- the entries down to a target and below it are one way

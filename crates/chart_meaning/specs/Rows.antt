@@ -11,7 +11,7 @@ use Rattle.chart_meaning.specs.declared.rows.Row.{Row}
 use Rattle.chart_meaning.specs.Step.{entered_by, exited_by, start_of}
 use Rattle.chart_meaning.specs.Configuration.{Configuration}
 use Rattle.chart_meaning.specs.IsConfiguration.{IsConfiguration}
-use Rattle.chart_meaning.specs.Tree.{way_down, way_out}
+use Rattle.chart_meaning.specs.Tree.{start_descendants, ancestors}
 
 -- the transitions that may fire where these states are active: innermost first, and each state's in written order
 abbrev pub candidates : List Transition → List ℕ → List Transition
@@ -40,7 +40,7 @@ IsRow chart leaf row = (transition : Transition) × IsRowOf chart leaf transitio
 
 -- one row for each transition that may fire in a leaf
 abbrev pub AreRows : Chart → ℕ → List Row → Type 0
-AreRows chart leaf rows = AllZip (IsRowOf chart leaf) (candidates chart.transitions (way_out chart.states leaf)) rows
+AreRows chart leaf rows = AllZip (IsRowOf chart leaf) (candidates chart.transitions (ancestors chart.states leaf)) rows
 
 -- the rows of each leaf, by the numbers of the states
 pub record AreRowsOfLeaves (chart : Chart) (rows : List (Vec Row Global)) : Type 0 where
@@ -54,7 +54,7 @@ IsRowThatFires chart leaf fires (Some row) = (transition : Transition) × ((fire
 
 -- the start children below each state
 abbrev pub AreWaysDown : List State → List (List ℕ) → Type 0
-AreWaysDown states ways = ways ≡ map (way_down states) (range_with_len 0 (length states))
+AreWaysDown states ways = ways ≡ map (start_descendants states) (range_with_len 0 (length states))
 
 -- a plan is ready for its chart
 pub record IsReady (chart : Chart) (c : Configuration) (table : List (Vec Row Global)) (down : List (List ℕ)) : Type 0 where

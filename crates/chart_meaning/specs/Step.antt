@@ -11,7 +11,7 @@ use Rattle.chart_model.specs.Guard.{truth_of_guard}
 use Rattle.chart_model.specs.States.{is_top_start}
 use Rattle.chart_meaning.specs.Actions.{run}
 use Rattle.chart_meaning.specs.Configuration.{Configuration}
-use Rattle.chart_meaning.specs.Tree.{way_out, innermost_container, states_below, start_child, way_down}
+use Rattle.chart_meaning.specs.Tree.{ancestors, least_common_proper_ancestor, states_below, start_child, start_descendants}
 
 -- a transition is to the state, and has history
 abbrev pub is_recall_of : ℕ → Transition → Bool
@@ -23,7 +23,7 @@ is_remembering transitions s = list_any (is_recall_of s) transitions
 
 -- the active states: the leaf and all states that contain it, from the inside out
 abbrev pub active_states : List State → Configuration → List ℕ
-active_states states c = way_out states c.leaf
+active_states states c = ancestors states c.leaf
 
 -- the entry actions of a state
 abbrev pub entry_of : List State → ℕ → List Action
@@ -58,7 +58,7 @@ declared chart s = record {
 -- the starting configuration: the top start state is entered, and from there start children down to a leaf
 abbrev pub start_of : Chart → Configuration
 start_of chart =
-    option_map_or (λ top. enter_all chart (top ∷ way_down chart.states top) (declared chart top))
+    option_map_or (λ top. enter_all chart (top ∷ start_descendants chart.states top) (declared chart top))
     (position is_top_start chart.states) (declared chart 0)
 
 -- the guard holds; a transition without a guard always holds
@@ -89,16 +89,16 @@ last_child c s = option_and_then (λ child. child) (slice_get c.last s)
 
 -- the states entered below a target: with history its last child first, and from there on start children
 abbrev pub way_below : List State → Bool → ℕ → Configuration → List ℕ
-way_below states false target c = way_down states target
-way_below states true target c = option_map_or (λ child. child ∷ way_down states child) (last_child c target) []
+way_below states false target c = start_descendants states target
+way_below states true target c = option_map_or (λ child. child ∷ start_descendants states child) (last_child c target) []
 
 -- the active states below the innermost state that properly contains source and target
 abbrev pub exited_by : List State → ℕ → ℕ → ℕ → List ℕ
-exited_by states source target leaf = states_below (innermost_container states source target) (way_out states leaf)
+exited_by states source target leaf = states_below (least_common_proper_ancestor states source target) (ancestors states leaf)
 
 -- the states below that state on the way down to the target, outermost first
 abbrev pub entered_by : List State → ℕ → ℕ → List ℕ
-entered_by states source target = reverse (states_below (innermost_container states source target) (way_out states target))
+entered_by states source target = reverse (states_below (least_common_proper_ancestor states source target) (ancestors states target))
 
 -- the target is entered, and the states below it
 abbrev pub enter_target : Chart → Transition → ℕ → Configuration → Configuration

@@ -8,16 +8,18 @@ ghost use Rattle.chart_meaning.specs.Configuration.{Configuration};
 ghost use Rattle.chart_meaning.specs.IsConfiguration.{IsConfiguration};
 ghost use Rattle.chart_meaning.specs.Plan.{plan_of_chart};
 ghost use Rattle.chart_meaning.specs.Step.{is_guard_true, next_of, reply_of, start_of};
-ghost use Rattle.chart_meaning.specs.Tree.{start_child, way_down, way_out};
+ghost use Rattle.chart_meaning.specs.Tree.{start_child, start_descendants, ancestors};
 
 use chart_model::Chart;
 
-/// No way is cut short: a way out goes on with that of the state that contains it, and a way down with that of the
-/// start child.
+/// No list is cut short: the ancestors of a state go on with those of the state that contains it, and the start
+/// descendants with those of the start child.
 pub fn ways_are_whole(chart: &Chart, state: usize)
     requires { state < length chart.now.states }
-    ensures out { way_out chart.now.states state ≡ state ∷ option_map_or (way_out chart.now.states) (parent_of chart.now.states state) [] }
-    ensures down { way_down chart.now.states state ≡ option_map_or (λ child. child ∷ way_down chart.now.states child) (start_child chart.now.states state) [] }
+    ensures out { ancestors chart.now.states state
+        ≡ state ∷ option_map_or (ancestors chart.now.states) (parent_of chart.now.states state) [] }
+    ensures down { start_descendants chart.now.states state
+        ≡ option_map_or (λ child. child ∷ start_descendants chart.now.states child) (start_child chart.now.states state) [] }
 {}
 
 /// What is reached are configurations: the chart starts in one, steps lead to others, and each reply has one number

@@ -2,7 +2,7 @@ ghost use Rattle.std.specs.Prelude.{◌≡◌, ◌<◌, Some, None, Contains, le
 ghost use Rattle.std.specs.Option.{ForSome};
 ghost use Rattle.chart_meaning.specs.Actions.{run};
 ghost use Rattle.chart_meaning.specs.Step.{enter, enter_all, exit_all, exit_of, go_to, remember, take_transition, way_below};
-ghost use Rattle.chart_meaning.specs.Tree.{way_down};
+ghost use Rattle.chart_meaning.specs.Tree.{start_descendants};
 ghost use Rattle.chart_meaning.specs.IsConfiguration.{AreLastChildren, AreValues, IsConfiguration};
 ghost use Rattle.chart_meaning.specs.Rows.{AreWaysDown, IsRouteTo, IsRow};
 ghost use Rattle.chart_meaning.specs.Ways.{AreStates, IsActiveIn, IsUpFrom};
@@ -150,7 +150,7 @@ pub fn enter_down(chart: &Chart, ways: &[Path], state: usize, config: &mut Confi
     requires ways { AreWaysDown chart.now.states ways.now }
     requires state { state < length chart.now.states }
     requires values { AreValues chart.now config.old }
-    ensures down { config.new ≡ enter_all chart.now (way_down chart.now.states state) config.old }
+    ensures down { config.new ≡ enter_all chart.now (start_descendants chart.now.states state) config.old }
     ensures values { AreValues chart.now config.new }
 {
     let way = &ways[state];

@@ -7,7 +7,9 @@ ghost use Rattle.chart_meaning.specs.Step.{entered_by, exited_by};
 ghost use Rattle.chart_meaning.specs.Rows.{AreRows, AreRowsOfLeaves, AreWaysDown, IsRowOf};
 
 use crate::path::Path;
-use crate::tree::{innermost_container, is_child_of, states_below, way_down, way_out};
+use crate::tree::{
+    ancestors, is_child_of, least_common_proper_ancestor, start_descendants, states_below,
+};
 use chart_model::{Chart, State, Transition};
 use std::alloc::{AllocError, Global};
 
@@ -37,7 +39,7 @@ pub fn ways_down(alloc: Global, chart: &Chart) -> Result<Vec<Path>, AllocError>
     let states = chart.states.as_slice();
     let mut ways = Vec::with_capacity(alloc, states.len())?;
     for state in 0..states.len() {
-        ways.push(way_down(states, state))?;
+        ways.push(start_descendants(states, state))?;
     }
     Ok(ways)
 }
@@ -71,7 +73,7 @@ fn collect_rows(chart: &Chart, leaf: usize, rows: &mut Vec<Row>) -> Result<(), A
     requires empty { rows.old.items ≡ [] }
     ensures { OnOk result (AreRows chart.now leaf rows.new.items) }
 {
-    let active = way_out(chart.states.as_slice(), leaf);
+    let active = ancestors(chart.states.as_slice(), leaf);
     for state in active.as_slice() {
         add_rows_from(chart, leaf, *state as usize, rows)?;
     }
@@ -125,9 +127,9 @@ fn route_to(chart: &Chart, source: usize, target: usize, leaf: usize) -> Route
     ensures entered { result.entered ≡ entered_by chart.now.states source target }
 {
     let states = chart.states.as_slice();
-    let container = innermost_container(states, source, target);
-    let exited = states_below(container, way_out(states, leaf));
-    let mut entered = states_below(container, way_out(states, target));
+    let container = least_common_proper_ancestor(states, source, target);
+    let exited = states_below(container, ancestors(states, leaf));
+    let mut entered = states_below(container, ancestors(states, target));
     entered.reverse();
     Route {
         target: target as u8,

@@ -1,17 +1,17 @@
 ghost use Rattle.std.specs.Prelude.{◌≡◌, ◌<◌, ◌≤◌, ◌==◌, length, not, find, take_while};
 ghost use Rattle.std.specs.List.{list_any};
 ghost use Rattle.chart_model.specs.States.{IsTree, is_child_of};
-ghost use Rattle.chart_meaning.specs.Tree.{way_out, way_down, innermost_container, states_below, start_child};
+ghost use Rattle.chart_meaning.specs.Tree.{ancestors, start_descendants, least_common_proper_ancestor, states_below, start_child};
 
 use crate::path::Path;
 use chart_model::State;
 
 /// A state and all states that contain it, from the inside out.
-pub fn way_out(states: &[State], state: usize) -> Path
+pub fn ancestors(states: &[State], state: usize) -> Path
     requires tree { IsTree states.now }
     requires few { length states.now ≤ 64 }
     requires inside { state < length states.now }
-    ensures way { result ≡ way_out states.now state }
+    ensures way { result ≡ ancestors states.now state }
     ensures some { 0 < length result }
 {
     let mut way = Path::new();
@@ -24,15 +24,15 @@ pub fn way_out(states: &[State], state: usize) -> Path
 }
 
 /// The innermost state that properly contains both, if there is one.
-pub fn innermost_container(states: &[State], source: usize, target: usize) -> Option<u8>
+pub fn least_common_proper_ancestor(states: &[State], source: usize, target: usize) -> Option<u8>
     requires tree { IsTree states.now }
     requires few { length states.now ≤ 64 }
     requires source { source < length states.now }
     requires target { target < length states.now }
-    ensures { result ≡ innermost_container states.now source target }
+    ensures { result ≡ least_common_proper_ancestor states.now source target }
 {
-    let source_way = way_out(states, source);
-    let target_way = way_out(states, target);
+    let source_way = ancestors(states, source);
+    let target_way = ancestors(states, target);
     first_common(&source_way.as_slice()[1..], &target_way.as_slice()[1..])
 }
 
@@ -48,7 +48,7 @@ fn first_common(states: &[u8], others: &[u8]) -> Option<u8>
     None
 }
 
-/// The states of a way out below a state, or all of them.
+/// The ancestors in a list that lie below a state, or all of them.
 pub fn states_below(container: Option<u8>, way: Path) -> Path
     ensures { result ≡ states_below container way }
 {
@@ -92,11 +92,11 @@ pub fn is_child_of(state: usize, child: &State) -> bool
 }
 
 /// The start children that are entered below a state, outermost first.
-pub fn way_down(states: &[State], state: usize) -> Path
+pub fn start_descendants(states: &[State], state: usize) -> Path
     requires tree { IsTree states.now }
     requires few { length states.now ≤ 64 }
     requires inside { state < length states.now }
-    ensures { result ≡ way_down states.now state }
+    ensures { result ≡ start_descendants states.now state }
 {
     let mut way = Path::new();
     let mut at = start_child(states, state);

@@ -1,7 +1,7 @@
 use Rattle.std.proofs.Common.{◌<◌, length, ◌∙◌, ap, None}
 use Rattle.chart_meaning.specs.Actions.{run}
 use Rattle.chart_meaning.specs.Step.{enter_all, enter_target, exit_all}
-use Rattle.chart_meaning.proofs.Moving.{IsUpFrom-below, IsUpFrom-way_out, All-below, AreStates-way_out, AreStates-entered, run-last, enter_all-last}
+use Rattle.chart_meaning.proofs.Moving.{IsUpFrom-below, IsUpFrom-ancestors, All-below, AreStates-ancestors, AreStates-entered, run-last, enter_all-last}
 use Rattle.chart_meaning.proofs.Leaving.{AreLastChildren-same}
 use Rattle.chart_meaning.proofs.Taking.{IsConfiguration-entered, entered_below, target_inside}
 use Rattle.chart_meaning.proofs.moves.go_to.Goals as goal
@@ -9,13 +9,13 @@ use Rattle.chart_meaning.proofs.moves.go_to.Goals as goal
 pub exit_all-requires-clause-way : goal.exit_all-requires-clause-way
 exit_all-requires-clause-way c =
     rw (c.as_slice-exited.ensures.value, c.requires.route.exited)
-    (IsUpFrom-below c.args.chart.now.states _ _ _ (IsUpFrom-way_out c.args.chart.now.states c.args.config.now.leaf))
+    (IsUpFrom-below c.args.chart.now.states _ _ _ (IsUpFrom-ancestors c.args.chart.now.states c.args.config.now.leaf))
 
 pub exit_all-requires-clause-states : goal.exit_all-requires-clause-states
 exit_all-requires-clause-states c =
     rw (c.as_slice-exited.ensures.value, c.requires.route.exited)
     (All-below (λ s. s < length c.args.chart.now.states) _ _
-    (AreStates-way_out c.args.chart.now.states c.args.chart.now.kept.tree c.args.config.now.leaf
+    (AreStates-ancestors c.args.chart.now.states c.args.chart.now.kept.tree c.args.config.now.leaf
     c.requires.configuration.state))
 
 pub enter_all-requires-clause-way : goal.enter_all-requires-clause-way

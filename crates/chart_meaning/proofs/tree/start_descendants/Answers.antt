@@ -1,5 +1,5 @@
 use Rattle.chart_meaning.proofs.Climbing.{walking_down-start, walking_down-more, walking_down-end}
-use Rattle.chart_meaning.proofs.tree.way_down.Goals as goal
+use Rattle.chart_meaning.proofs.tree.start_descendants.Goals as goal
 
 pub loop-at-init : goal.loop-at-init
 loop-at-init c = rw (c.new-way.ensures, c.start_child-at.ensures) (walking_down-start c.args.states.now c.args.state c.requires.inside)

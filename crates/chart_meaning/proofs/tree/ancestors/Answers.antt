@@ -1,7 +1,7 @@
 use Rattle.std.proofs.Common.{refl}
 use Rattle.std.proofs.lemmas.Option.{slice_get-get_or}
-use Rattle.chart_meaning.proofs.Climbing.{parent_read, walking_out-start, walking_out-more, walking_out-end, way_out-some}
-use Rattle.chart_meaning.proofs.tree.way_out.Goals as goal
+use Rattle.chart_meaning.proofs.Climbing.{parent_read, walking_out-start, walking_out-more, walking_out-end, ancestors-some}
+use Rattle.chart_meaning.proofs.tree.ancestors.Goals as goal
 
 pub loop-at-init : goal.loop-at-init
 loop-at-init c = rw c.new-way.ensures (walking_out-start c.args.states.now c.args.state c.requires.tree c.requires.inside)
@@ -16,7 +16,7 @@ loop-at-preserved c =
 pub returns-clause-some : goal.returns-clause-some
 returns-clause-some c =
     rw (walking_out-end c.args.states.now c.args.state c.loop-at.way (rw c.in_default.is at c.loop-at.invariant))
-    (way_out-some c.args.states.now c.args.state)
+    (ancestors-some c.args.states.now c.args.state)
 
 pub returns-clause-way : goal.returns-clause-way
 returns-clause-way c = walking_out-end c.args.states.now c.args.state c.loop-at.way (rw c.in_default.is at c.loop-at.invariant)
