@@ -1,5 +1,4 @@
 pub mod Words
-pub mod LineLemmas
 pub mod Scanning
 pub mod Numbers
 pub mod Reading

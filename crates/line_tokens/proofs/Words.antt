@@ -4,7 +4,7 @@ use Rattle.std.proofs.lemmas.List.Sums.{prefix_len-le-length}
 use Rattle.line_tokens.specs.Spelling.{starts, is_symbol_byte, is_before_equals, is_symbol, is_token}
 use Rattle.lin_form.specs.Name.{starts_name, continues_name}
 use Rattle.std.specs.Char.{is_ascii_digit}
-use Rattle.line_tokens.specs.Tokens.{IsLongest}
+use Rattle.line_tokens.specs.Tokens.{IsLongestToken}
 use Rattle.line_tokens.specs.Front.{starts_symbol, starts_joined}
 
 -- a letter is no digit and no byte of a symbol, and a digit is no byte of a symbol
@@ -71,7 +71,7 @@ true_false e = cc
 
 -- the longest token at the front is the whole run of a class, where such a run is a token exactly if all of it is of the class
 longest_run : (p : ℕ → Bool) (b : ℕ) (bs : List ℕ) → p b ≡ true → ((ys : List ℕ) → is_token (b ∷ ys) ≡ list_all p ys)
-    → IsLongest (b ∷ bs) (prefix_len p (b ∷ bs))
+    → IsLongestToken (b ∷ bs) (prefix_len p (b ∷ bs))
 longest_run p b bs h at = let size : prefix_len p (b ∷ bs) ≡ suc (prefix_len p bs) = rw h (omega arith) in rw size record {
   some = omega arith;
   within = within;
@@ -88,11 +88,11 @@ longest_run p b bs h at = let size : prefix_len p (b ∷ bs) ≡ suc (prefix_len
 name_byte : (b : ℕ) → starts_name b ≡ true → continues_name b ≡ true
 name_byte b h = rw h refl
 
-pub name_longest : (xs : List ℕ) → starts starts_name xs ≡ true → IsLongest xs (prefix_len continues_name xs)
+pub name_longest : (xs : List ℕ) → starts starts_name xs ≡ true → IsLongestToken xs (prefix_len continues_name xs)
 name_longest [] h = absurd (true_false (sym h))
 name_longest (b ∷ bs) h = longest_run continues_name b bs (name_byte b h) (λ ys. name_at b ys h)
 
-pub number_longest : (xs : List ℕ) → starts is_ascii_digit xs ≡ true → IsLongest xs (prefix_len is_ascii_digit xs)
+pub number_longest : (xs : List ℕ) → starts is_ascii_digit xs ≡ true → IsLongestToken xs (prefix_len is_ascii_digit xs)
 number_longest [] h = absurd (true_false (sym h))
 number_longest (b ∷ bs) h = longest_run is_ascii_digit b bs h (λ ys. number_at b ys h)
 
@@ -121,7 +121,7 @@ pub and_second : (a b : Bool) → (a && b) ≡ true → b ≡ true
 and_second true b h = h
 and_second false b h = absurd (true_false (sym h))
 
-pub joined_longest : (xs : List ℕ) → starts starts_name xs ≡ false → starts is_ascii_digit xs ≡ false → starts_joined xs ≡ true → IsLongest xs 2
+pub joined_longest : (xs : List ℕ) → starts starts_name xs ≡ false → starts is_ascii_digit xs ≡ false → starts_joined xs ≡ true → IsLongestToken xs 2
 joined_longest [] g h j = absurd (true_false (sym j))
 joined_longest (b ∷ []) g h j = absurd (true_false (sym (and_second (is_before_equals b) false j)))
 joined_longest (b ∷ c ∷ bs) g h j = record {
@@ -143,7 +143,7 @@ no_longer b bs g h j (suc (suc zero)) more few is = no_token b (take 1 bs) g h (
 no_longer b bs g h j (suc (suc (suc m))) more few is = no_token b (take (suc (suc m)) bs) g h (long_symbol b bs (suc (suc (suc m))) (omega arith) few) is
 
 pub symbol_longest : (xs : List ℕ) → starts starts_name xs ≡ false → starts is_ascii_digit xs ≡ false → starts_joined xs ≡ false
-    → starts_symbol xs ≡ true → IsLongest xs 1
+    → starts_symbol xs ≡ true → IsLongestToken xs 1
 symbol_longest [] g h j s = absurd (true_false (sym s))
 symbol_longest (b ∷ bs) g h j s = record {
   some = omega arith;

@@ -1,6 +1,7 @@
 -- The limits of a line that its tokens show, in their order, and what the tokens of a line are or why there are none.
 use Rattle.std.specs.Prelude.{◌≡◌, ℕ, ◌-◌, pos, Bool, false, ◌||◌, if◌then◌else◌, nat_lt, int_lt, List, [], ◌∷◌}
 use Rattle.std.specs.Prelude.{length, count_by, codes, Option, Some, None}
+use Rattle.std.specs.Option.{option_or}
 use Rattle.std.specs.Str.{bytes_eq}
 use Rattle.line_tokens.specs.declared.token.Word.{Word}
 use Rattle.line_tokens.specs.declared.token.Word.TheVariants.{Name, Number, Symbol}
@@ -11,11 +12,6 @@ use Rattle.line_tokens.specs.declared.error.TokenError.{TokenError}
 use Rattle.line_tokens.specs.declared.error.TokenError.TheVariants.{Byte, Limit, Memory}
 use Rattle.line_tokens.specs.Lines.{content_of}
 use Rattle.line_tokens.specs.Tokens.{IsTokenized, spelling}
-
--- the first answer that there is
-abbrev pub or_else : {T : Type 0} → Option T → Option T → Option T
-or_else (Some x) other = Some x
-or_else None other = other
 
 -- the greatest number that may stand in a line, and the one after the word `gives`
 abbrev pub largest_literal : Bool → ℕ
@@ -37,7 +33,7 @@ is_word line word t = bytes_eq (spelling line t) word
 -- the limit on numbers and names that the first token from the left passes
 abbrev pub first_limit : List ℕ → Bool → List Token → Option TokenLimit
 first_limit line after_gives [] = None
-first_limit line after_gives (t ∷ ts) = or_else (token_limit after_gives t)
+first_limit line after_gives (t ∷ ts) = option_or (token_limit after_gives t)
     (first_limit line (after_gives || is_word line (codes "gives") t) ts)
 
 -- the token is `(` or `not`
@@ -46,8 +42,8 @@ is_nesting line t = is_word line (codes "(") t || is_word line (codes "not") t
 
 -- the first limit that the tokens of a line pass: on numbers and names, then on their number, then on nesting
 abbrev pub limit_of : List ℕ → List Token → Option TokenLimit
-limit_of line ts = or_else (first_limit line false ts)
-    (or_else (if nat_lt 1024 (length ts) then Some Tokens else None)
+limit_of line ts = option_or (first_limit line false ts)
+    (option_or (if nat_lt 1024 (length ts) then Some Tokens else None)
     (if nat_lt 64 (count_by (is_nesting line) ts) then Some Nesting else None))
 
 -- the line has these tokens, and they pass no limit
@@ -62,7 +58,7 @@ IsRefused line (Limit l) = (tokens : List Token) × IsTokenized (content_of line
     × (limit_of (content_of line) tokens ≡ Some l)
 IsRefused line Memory = Unit {0}
 
--- the tokens at these places pass this limit first, among those on numbers and names
+-- the tokens at these spans pass this limit first, among those on numbers and names
 abbrev pub IsLimited : List ℕ → List Token → TokenError → Type 0
 IsLimited line tokens Byte = ⊥
 IsLimited line tokens (Limit l) = first_limit line false tokens ≡ Some l

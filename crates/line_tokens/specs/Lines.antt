@@ -1,16 +1,6 @@
--- The lines of a text, and what of a line is no comment.
-use Rattle.std.specs.Prelude.{ℕ, ◌-◌, not, if◌then◌else◌, ◌==◌, List, [], ◌∷◌, length, take, slice_index}
+-- What of a line is no comment.
+use Rattle.std.specs.Prelude.{ℕ, ◌-◌, not, if◌then◌else◌, ◌==◌, List, length, take, slice_index}
 use Rattle.std.specs.List.{prefix_len}
-
--- puts a byte at the front of the first piece
-abbrev pub onto : ℕ → List (List ℕ) → List (List ℕ)
-onto b [] = (b ∷ []) ∷ []
-onto b (piece ∷ pieces) = (b ∷ piece) ∷ pieces
-
--- the pieces between line feeds; a last piece that is empty is no line
-abbrev pub lines_of : List ℕ → List (List ℕ)
-lines_of [] = []
-lines_of (b ∷ bs) = if b == 10 then [] ∷ lines_of bs else onto b (lines_of bs)
 
 -- a line without the carriage return that is its last byte
 abbrev pub without_return : List ℕ → List ℕ

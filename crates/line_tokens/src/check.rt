@@ -4,12 +4,12 @@ ghost use Rattle.std.specs.List.{list_all};
 ghost use Rattle.line_tokens.specs.Spelling.{starts, is_token, decimal_value, symbol_number, word_of};
 ghost use Rattle.lin_form.specs.Name.{starts_name};
 ghost use Rattle.std.specs.Char.{is_ascii_digit};
-ghost use Rattle.line_tokens.specs.Tokens.{HasPlaces, IsPlace, IsInside, run, token_at};
+ghost use Rattle.line_tokens.specs.Tokens.{HasSpans, IsSpan, IsInside, run, token_at};
 ghost use Rattle.line_tokens.specs.Limits.{IsLimited, first_limit, word_limit, token_limit, largest_literal};
 ghost use Rattle.line_tokens.specs.Limits.{is_word, is_nesting};
 
 use crate::error::{TokenError, TokenLimit};
-use crate::place::Place;
+use crate::span::Span;
 use crate::token::{Token, Word, is_spelled};
 use crate::word::{begins_with_name, begins_with_number};
 
@@ -77,17 +77,17 @@ fn word(bytes: &[u8], after_gives: bool) -> Result<Word, TokenLimit>
     Ok(Word::Symbol(symbol(bytes)))
 }
 
-/// The token at a place of the line, or the limit that it passes.
-fn token(line: &[u8], place: Place, after_gives: bool) -> Result<Token, TokenLimit>
-    requires { IsPlace line.now place }
-    ensures { MatchResult result (λ t. (t ≡ token_at line.now place) × (token_limit after_gives t ≡ None))
-        (λ l. token_limit after_gives (token_at line.now place) ≡ Some l) }
+/// The token in a span of the line, or the limit that it passes.
+fn token(line: &[u8], span: Span, after_gives: bool) -> Result<Token, TokenLimit>
+    requires { IsSpan line.now span }
+    ensures { MatchResult result (λ t. (t ≡ token_at line.now span) × (token_limit after_gives t ≡ None))
+        (λ l. token_limit after_gives (token_at line.now span) ≡ Some l) }
 {
-    let word = word(&line[place.from..place.to], after_gives)?;
+    let word = word(&line[span.from..span.to], after_gives)?;
     Ok(Token {
         word,
-        from: place.from,
-        to: place.to,
+        from: span.from,
+        to: span.to,
     })
 }
 
@@ -98,18 +98,18 @@ fn stands_after_gives(line: &[u8], token: &Token, after_gives: bool) -> bool
     after_gives || is_spelled(line, token, b"gives")
 }
 
-/// Puts the tokens at these places in place of what the list holds, or tells the first limit on numbers and names
+/// Puts the tokens at these spans in place of what the list holds, or tells the first limit on numbers and names
 /// that they pass.
-pub(crate) fn read(line: &[u8], places: &[Place], tokens: &mut Vec<Token>) -> Result<(), TokenError>
-    requires { HasPlaces line.now 0 places.now }
-    ensures ok { OnOk result ((tokens.new.items ≡ map (token_at line.now) places.now)
+pub(crate) fn read(line: &[u8], spans: &[Span], tokens: &mut Vec<Token>) -> Result<(), TokenError>
+    requires { HasSpans line.now 0 spans.now }
+    ensures ok { OnOk result ((tokens.new.items ≡ map (token_at line.now) spans.now)
         × (first_limit line.now false tokens.new.items ≡ None)) }
-    ensures err { IfErr result (λ e. IsLimited line.now (map (token_at line.now) places.now) e) }
+    ensures err { IfErr result (λ e. IsLimited line.now (map (token_at line.now) spans.now) e) }
 {
     tokens.clear();
     let mut after_gives = false;
-    'places: for place in places {
-        let token = match token(line, *place, after_gives) {
+    'spans: for span in spans {
+        let token = match token(line, *span, after_gives) {
             Ok(token) => token,
             Err(limit) => return Err(TokenError::Limit(limit)),
         };

@@ -1,4 +1,4 @@
-//! The lines of a text, and the tokens of a line: names, numbers and symbols, the longest possible from left to right,
+//! The tokens of a line: names, numbers and symbols, the longest possible from left to right,
 //! with the faults and limits of a line that its tokens show.
 #![tactic(auto)]
 
@@ -6,8 +6,8 @@ mod check;
 mod error;
 mod laws;
 mod line;
-mod place;
 mod scan;
+mod span;
 #[cfg(test)]
 mod tests;
 mod token;
@@ -16,6 +16,6 @@ mod word;
 
 pub use error::{TokenError, TokenLimit};
 pub use laws::one_tokenizing;
-pub use line::{content, next_line};
+pub use line::content;
 pub use token::{Token, Word, is_spelled};
 pub use tokenizer::{Tokenizer, line_tokens};

@@ -1,5 +1,5 @@
-//! The tokens of a line, its faults and limits, and the lines of a text.
-use crate::{Token, TokenError, TokenLimit, Word, content, line_tokens, next_line};
+//! The tokens of a line, its faults and limits.
+use crate::{Token, TokenError, TokenLimit, Word, content, line_tokens};
 use std::alloc::Global;
 use std::test::Fail;
 
@@ -95,13 +95,8 @@ fn faults_and_limits(rt: HostRuntime) -> Result<(), Fail> {
 }
 
 #[test]
-fn lines(rt: HostRuntime) {
-    let mut rest: &[u8] = b"a\r\n\n#\r\nb\r";
-    for want in ["a", "", "", "b"] {
-        assert!(rt; !rest.is_empty());
-        let (line, after) = next_line(rest);
-        assert_eq!(rt; content(line), want.as_bytes());
-        rest = after;
+fn contents(rt: HostRuntime) {
+    for (line, want) in [("a\r", "a"), ("", ""), ("#\r", ""), ("b", "b")] {
+        assert_eq!(rt; content(line.as_bytes()), want.as_bytes());
     }
-    assert!(rt; rest.is_empty());
 }

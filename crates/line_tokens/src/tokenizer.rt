@@ -4,8 +4,8 @@ ghost use Rattle.line_tokens.specs.Limits.{IsRead, IsRefused};
 use crate::check::{nesting, read};
 use crate::error::{TokenError, TokenLimit};
 use crate::line::content;
-use crate::place::Place;
-use crate::scan::places;
+use crate::span::Span;
+use crate::scan::spans;
 use crate::token::Token;
 use std::alloc::Global;
 use std::marker::Model;
@@ -17,7 +17,7 @@ const MOST_NESTING: usize = 64;
 /// Reads the tokens of lines, one line after another, in the same memory. Contracts see it as the tokens that it holds.
 #[derive(Drop)]
 pub struct Tokenizer {
-    places: Vec<Place>,
+    spans: Vec<Span>,
     tokens: Vec<Token>,
 }
 
@@ -35,7 +35,7 @@ impl Tokenizer {
         ensures { result ≡ [] }
     {
         Tokenizer {
-            places: Vec::new(alloc),
+            spans: Vec::new(alloc),
             tokens: Vec::new(alloc),
         }
     }
@@ -55,12 +55,12 @@ impl Tokenizer {
         ensures err { IfErr result (IsRefused line.now) }
     {
         let content = content(line);
-        match places(content, &mut self.places) {
+        match spans(content, &mut self.spans) {
             Ok(true) => {}
             Ok(false) => return Err(TokenError::Byte),
             Err(_) => return Err(TokenError::Memory),
         }
-        match read(content, self.places.as_slice(), &mut self.tokens) {
+        match read(content, self.spans.as_slice(), &mut self.tokens) {
             Ok(()) => {}
             Err(error) => return Err(error),
         }

@@ -1,6 +1,6 @@
 use Rattle.std.proofs.Common.{◌-◌, length}
 use Rattle.line_tokens.proofs.Scanning.{IsScanned}
-use Rattle.line_tokens.proofs.scan.places.Given as goal
+use Rattle.line_tokens.proofs.scan.spans.Given as goal
 
 abbrev pub invariant-scan : goal.invariant-scan
 invariant-scan l = IsScanned l.line l.at l.found.items

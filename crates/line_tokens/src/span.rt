@@ -1,6 +1,6 @@
 /// Where a token stands in its line: from the byte `from` to the byte before `to`, counted from 0.
 #[derive(Clone, Copy)]
-pub struct Place {
+pub struct Span {
     pub from: usize,
     pub to: usize,
 }
@@ -13,5 +13,5 @@ pub enum Next {
     /// A byte that is not allowed or begins no token.
     Fault,
     /// A token.
-    Found(Place),
+    Found(Span),
 }
