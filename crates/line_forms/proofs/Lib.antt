@@ -9,7 +9,7 @@ pub mod Numerals
 pub mod Nots
 pub mod Small
 pub mod Unique
-pub mod Seen
+pub mod Parsing
 pub mod Keywords
 pub mod Formed
 pub mod CutLines

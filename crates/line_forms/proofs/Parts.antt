@@ -8,9 +8,9 @@ use Rattle.line_forms.specs.declared.lexeme.Lexeme.TheVariants.{Reserved}
 use Rattle.line_forms.specs.declared.statement.TestForm.{TestForm}
 use Rattle.line_forms.specs.declared.statement.ActionForm.{ActionForm}
 use Rattle.line_forms.specs.declared.statement.OnForm.{OnForm}
-use Rattle.line_forms.specs.declared.error.FormError.{FormError}
-use Rattle.line_forms.specs.declared.error.FormError.TheVariants.{Form, Memory}
-use Rattle.line_forms.specs.Grammar.{Has, IsTest, test_size, Guard, IsGuard, guard_size, IsEach, each_size}
+use Rattle.line_forms.specs.declared.error.ParseError.{ParseError}
+use Rattle.line_forms.specs.declared.error.ParseError.TheVariants.{Form, Memory}
+use Rattle.line_forms.specs.Grammar.{Has, IsTest, test_size, Guard, IsGuardText, guard_size, IsEach, each_size}
 use Rattle.line_forms.specs.Forms.{IsNamed, named_size, IsMarked, marked_size, IsWhen, when_size, IsHistory, IsOnForm, IsAssumeForm}
 use Rattle.line_forms.specs.Longest.{in_sum, in_guard, Stops, IsLongest, IsOnly, GivesOnly, GivesWhen, Derives}
 use Rattle.line_forms.proofs.Compare.{all_wider, widened, one_test}
@@ -26,13 +26,13 @@ moved class ts i j e h = subst (Stops class ts) e h
 
 -- a guard behind `when`
 when_one : (ts : List Lexeme) (i end : ℕ) (g : Guard) (w : Option Guard) → Has ts i (Reserved keyword.When)
-    → IsLongest (IsGuard ts) guard_size (i + 1) end g → IsWhen ts i w → Stops in_guard ts (i + when_size w) → w ≡ Some g
+    → IsLongest (IsGuardText ts) guard_size (i + 1) end g → IsWhen ts i w → Stops in_guard ts (i + when_size w) → w ≡ Some g
 when_one ts i end g None has long is stops = absurd (is has)
 when_one ts i end g (Some h) has long is stops =
     let e = guard_settled ts (i + 1) end g h long is.1 (moved in_guard ts (i + (1 + guard_size h)) (i + 1 + guard_size h) (omega arith) stops) in
     λ j. Some (e j)
 
-pub when_read : (ts : List Lexeme) (i end : ℕ) (g : Guard) → Has ts i (Reserved keyword.When) → IsLongest (IsGuard ts) guard_size (i + 1) end g
+pub when_read : (ts : List Lexeme) (i end : ℕ) (g : Guard) → Has ts i (Reserved keyword.When) → IsLongest (IsGuardText ts) guard_size (i + 1) end g
     → IsOnly (IsWhen ts) when_size in_guard ts i end (Some g)
 when_read ts i end g has long = record {
   spelled = (has, long.spelled);
@@ -57,7 +57,7 @@ behind_each ts i (a ∷ more) each stops = stopped in_guard ts i (Reserved keywo
 pub behind_when : (ts : List Lexeme) (f : OnForm) (h : IsOnForm ts f) → Stops in_guard ts (2 + when_size h.when)
 behind_when ts f h = behind_each ts (2 + when_size h.when) f.effect h.effect (behind_effect ts f h)
 
-pub when_failed : (ts : List Lexeme) (e : FormError) → GivesWhen (IsWhen ts) when_size ts 2 (Err e) → Derives (IsOnForm ts) (Err e)
+pub when_failed : (ts : List Lexeme) (e : ParseError) → GivesWhen (IsWhen ts) when_size ts 2 (Err e) → Derives (IsOnForm ts) (Err e)
 when_failed ts Form none = λ f h. none h.when h.guarded (behind_when ts f h)
 when_failed ts Memory none = tt
 
@@ -66,7 +66,7 @@ when_place : (ts : List Lexeme) (at : ℕ) (w : Option Guard) (f : OnForm) (h : 
     → 2 + when_size h.when ≡ at
 when_place ts at w f h read = ap (λ x. 2 + when_size x) (read.only h.when h.guarded (behind_when ts f h)) ∙ sym read.ends
 
-pub effect_failed : (ts : List Lexeme) (at : ℕ) (w : Option Guard) (e : FormError) → IsOnly (IsWhen ts) when_size in_guard ts 2 at w
+pub effect_failed : (ts : List Lexeme) (at : ℕ) (w : Option Guard) (e : ParseError) → IsOnly (IsWhen ts) when_size in_guard ts 2 at w
     → GivesOnly (λ i. IsEach ts i (Reserved keyword.Do)) each_size in_sum ts at (Err e) → Derives (IsOnForm ts) (Err e)
 effect_failed ts at w Form read none = λ f h.
     let p = when_place ts at w f h read in
@@ -94,7 +94,7 @@ same_end ts w effect end f h read =
     let g = same_effect ts w effect end f h read in
     (λ j. p j + each_size (g j)) ∙ sym read.each.ends
 
-pub go_failed : (ts : List Lexeme) (w : Option Guard) (effect : List ActionForm) (end : ℕ) (e : FormError) → IsReadToGo ts w effect end
+pub go_failed : (ts : List Lexeme) (w : Option Guard) (effect : List ActionForm) (end : ℕ) (e : ParseError) → IsReadToGo ts w effect end
     → Derives (IsNamed ts end keyword.Go) (Err e) → Derives (IsOnForm ts) (Err e)
 go_failed ts w effect end Form read none = λ f h. none f.target (subst (λ i. IsNamed ts i keyword.Go f.target) (same_end ts w effect end f h read) h.target)
 go_failed ts w effect end Memory read none = tt

@@ -25,17 +25,15 @@ use Rattle.line_forms.specs.declared.statement.TestForm.{TestForm}
 use Rattle.line_forms.specs.declared.statement.ActionForm.{ActionForm}
 use Rattle.line_forms.specs.declared.statement.Statement.{Statement}
 use Rattle.line_forms.specs.declared.statement.Statement.TheVariants as says
-use Rattle.line_forms.specs.declared.statement.Sighted.{Sighted}
-use Rattle.line_forms.specs.declared.statement.WordForm.{WordForm}
 use Rattle.line_forms.specs.Trees as tree
 use Rattle.line_forms.specs.Trees.{Tree}
 use Rattle.line_forms.specs.Lexemes.{keyword_of, name_meaning, symbol_of, meaning_of, lexeme_of, IsLexed}
-use Rattle.line_forms.specs.Grammar.{Has, IsTerm, term_size, AreTerms, terms_size, IsFirst, first_size, IsSum, sum_size, IsTest, IsAction}
-use Rattle.line_forms.specs.Grammar.{action_size, IsEach, Guard, Conj, Unit', conj, or, unit, and, not, paren, test, IsGuard, IsConj, IsUnit}
+use Rattle.line_forms.specs.Grammar.{Has, IsTerm, term_size, AreTerms, terms_size, IsFirst, first_size, IsSum, sum_size, IsTest, IsActionText}
+use Rattle.line_forms.specs.Grammar.{action_size, IsEach, Guard, Conj, Unit', conj, or, unit, and, not, paren, test, IsGuardText, IsConj, IsUnit}
 use Rattle.line_forms.specs.Grammar.{conj_size, unit_size, guard_tree, or_onto, conj_tree, and_onto, unit_tree}
-use Rattle.line_forms.specs.Forms.{IsSigned, signed_size, IsWhen, IsStatement, IsDerived, IsSighted, AreNumbers, HasNumbers, IsWordForm}
+use Rattle.line_forms.specs.Forms.{IsSigned, signed_size, IsWhen, IsStatement, AreNumbers}
 use Rattle.line_forms.specs.Limits.{IsFree, IsSmallNumber, IsSmallTerm, AreSmallTerms, IsSmallTest, IsSmallAction, AreSmallTests, IsSmallGuard}
-use Rattle.line_forms.specs.Limits.{IsSmallStatement, IsSmallSight, AreSmallNumbers}
+use Rattle.line_forms.specs.Limits.{IsSmallStatement}
 use Rattle.line_forms.proofs.Nots.{few_nots}
 
 abbrev pub IsPlain : Lexeme → Type 0
@@ -156,7 +154,7 @@ small_test ts i t plain short h = record {
   right = small_sum ts (i + sum_size t.left + 1) t.right plain h.2;
 }
 
-small_action : (ts : List Lexeme) (i : ℕ) (x : ActionForm) → ArePlain ts → length ts ≤ 1024 → IsAction ts i x → IsSmallAction x
+small_action : (ts : List Lexeme) (i : ℕ) (x : ActionForm) → ArePlain ts → length ts ≤ 1024 → IsActionText ts i x → IsSmallAction x
 small_action ts i x plain short h = record {
   few =
       let a = sum_within ts (i + 2) x.sum h.2 in
@@ -172,11 +170,11 @@ small_each ts i lead (x ∷ more) plain short h = All-cons IsSmallAction x more 
     (small_each ts (i + 1 + action_size x) Comma more plain short h.2)
 
 mutual
-  pub small_guard : (ts : List Lexeme) (i : ℕ) (g : Guard) → ArePlain ts → length ts ≤ 1024 → IsGuard ts i g → AreSmallTests (guard_tree g)
+  pub small_guard : (ts : List Lexeme) (i : ℕ) (g : Guard) → ArePlain ts → length ts ≤ 1024 → IsGuardText ts i g → AreSmallTests (guard_tree g)
   small_guard ts i (conj c) plain short p = small_conj ts i c plain short p
   small_guard ts i (or c g) plain short p = small_or ts (i + conj_size c + 1) (conj_tree c) g plain short (small_conj ts i c plain short p.0) p.2
 
-  small_or : (ts : List Lexeme) (i : ℕ) (front : Tree) (g : Guard) → ArePlain ts → length ts ≤ 1024 → AreSmallTests front → IsGuard ts i g
+  small_or : (ts : List Lexeme) (i : ℕ) (front : Tree) (g : Guard) → ArePlain ts → length ts ≤ 1024 → AreSmallTests front → IsGuardText ts i g
       → AreSmallTests (or_onto front g)
   small_or ts i front (conj c) plain short small p = (small, small_conj ts i c plain short p)
   small_or ts i front (or c g) plain short small p = small_or ts (i + conj_size c + 1) (tree.or front (conj_tree c)) g plain short
@@ -209,7 +207,7 @@ small_when line ts (Some w) value lexed short p e = λ g h.
     } in
     subst IsSmallGuard same small
 
-small_statement : (line : List ℕ) (ts : List Lexeme) (s : Statement) → IsLexed line ts → length ts ≤ 1024 → IsStatement ts s → IsSmallStatement s
+pub small_statement : (line : List ℕ) (ts : List Lexeme) (s : Statement) → IsLexed line ts → length ts ≤ 1024 → IsStatement ts s → IsSmallStatement s
 small_statement line ts (says.Chart n) lexed short h = tt
 small_statement line ts (says.Input f) lexed short h = let plain = plain_lexemes line ts lexed in
     (plain 1 (Named f.name) h.1, small_signed ts _ f.lo plain h.2, small_signed ts _ f.hi plain h.3)
@@ -232,21 +230,6 @@ small_statement line ts (says.On f) lexed short h = record {
   effect = small_each ts _ (Reserved keyword.Do) f.effect (plain_lexemes line ts lexed) short h.effect;
 }
 
-small_derived : (line : List ℕ) (ts : List Lexeme) (form : Option Statement) → IsLexed line ts → length ts ≤ 1024 → IsDerived ts form
-    → ForSome form IsSmallStatement
-small_derived line ts None lexed short h = λ s e. absurd (cc)
-small_derived line ts (Some f) lexed short h = λ s e. let same : f ≡ s = cc in subst IsSmallStatement same (small_statement line ts f lexed short h)
-
-pub small_sight : (line : List ℕ) (ts : List Lexeme) (sighted : Sighted) → IsLexed line ts → length ts ≤ 1024 → IsSighted ts sighted → IsSmallSight sighted
-small_sight line ts sighted lexed short seen = small_derived line ts sighted.form lexed short seen.form
-
-small_numbers : (ts : List Lexeme) (i : ℕ) (numbers : List Signed) → ArePlain ts → AreNumbers ts i numbers → All IsSmallNumber numbers
+pub small_numbers : (ts : List Lexeme) (i : ℕ) (numbers : List Signed) → ArePlain ts → AreNumbers ts i numbers → All IsSmallNumber numbers
 small_numbers ts i [] plain h = All-nil IsSmallNumber
 small_numbers ts i (n ∷ more) plain h = All-cons IsSmallNumber n more (small_signed ts i n plain h.0) (small_numbers ts (i + signed_size n) more plain h.1)
-
-small_form : (ts : List Lexeme) (numbers : Option (List Signed)) → ArePlain ts → HasNumbers ts numbers → ForSome numbers (All IsSmallNumber)
-small_form ts None plain h = λ s e. absurd (cc)
-small_form ts (Some ns) plain h = λ s e. let same : ns ≡ s = cc in subst (All IsSmallNumber) same (small_numbers ts 0 ns plain h)
-
-pub small_word : (line : List ℕ) (ts : List Lexeme) (form : WordForm) → IsLexed line ts → IsWordForm ts form → AreSmallNumbers form
-small_word line ts form lexed h = small_form ts form.numbers (plain_lexemes line ts lexed) h

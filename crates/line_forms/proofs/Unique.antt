@@ -18,12 +18,9 @@ use Rattle.line_forms.specs.declared.statement.ActionsForm.{ActionsForm}
 use Rattle.line_forms.specs.declared.statement.OnForm.{OnForm}
 use Rattle.line_forms.specs.declared.statement.Statement.{Statement}
 use Rattle.line_forms.specs.declared.statement.Statement.TheVariants as says
-use Rattle.line_forms.specs.declared.statement.Sighted.{Sighted}
-use Rattle.line_forms.specs.declared.statement.WordForm.{WordForm}
 use Rattle.line_forms.specs.Grammar.{Has, test_size, action_size, IsEach, each_size, Guard, guard_size, guard_tree}
-use Rattle.line_forms.specs.Forms.{reserved_at, IsSigned, signed_size, IsInputForm, IsAssumeForm, IsOutputForm, IsMemoryForm, IsNamed, named_size}
-use Rattle.line_forms.specs.Forms.{IsMarked, IsStateForm, IsActionsForm, IsWhen, when_size, IsHistory, IsOnForm, IsStatement, IsDerived}
-use Rattle.line_forms.specs.Forms.{IsSighted, AreNumbers, HasNumbers, IsWordForm}
+use Rattle.line_forms.specs.Forms.{IsSigned, signed_size, IsInputForm, IsAssumeForm, IsOutputForm, IsMemoryForm, IsNamed, named_size}
+use Rattle.line_forms.specs.Forms.{IsMarked, IsStateForm, IsActionsForm, IsWhen, when_size, IsHistory, IsOnForm, IsStatement, AreNumbers}
 use Rattle.line_forms.specs.Longest.{in_sum, in_guard, Stops}
 use Rattle.line_forms.proofs.Compare.{Compared, same, first, second, one_test, one_action}
 use Rattle.line_forms.proofs.Guards.{one_guard}
@@ -161,28 +158,11 @@ one_statement ts (says.Exit f) (says.Exit g) p q = ap says.Exit (one_actions ts 
 one_statement ts (says.On f) (says.On g) p q = ap says.On (one_on ts f g p q)
 one_statement ts a b p q = let h = begins ts a p in let k = begins ts b q in absurd (cc)
 
-one_derived : (ts : List Lexeme) (a b : Option Statement) → IsDerived ts a → IsDerived ts b → a ≡ b
-one_derived ts None None p q = refl
-one_derived ts None (Some b) p q = absurd (p b q)
-one_derived ts (Some a) None p q = absurd (q a p)
-one_derived ts (Some a) (Some b) p q = ap Some (one_statement ts a b p q)
-
-pub one_sighted : (ts : List Lexeme) (a b : Sighted) → IsSighted ts a → IsSighted ts b → a ≡ b
-one_sighted ts a b p q =
-    let h : a.head ≡ b.head = p.head ∙ sym q.head in
-    let f = one_derived ts a.form b.form p.form q.form in
-    λ j. record { head = h j; form = f j }
-
-pub some_sighted : (ts : List Lexeme) → ((a : Sighted) → IsSighted ts a → ⊥) → ⊥
-some_sighted ts none =
-    none (record { head = reserved_at ts 0; form = None })
-    (record { head = refl; form = λ s is. none (record { head = reserved_at ts 0; form = Some s }) (record { head = refl; form = is }) })
-
 signed_inside : (ts : List Lexeme) (i : ℕ) (s : Signed) → IsSigned ts i s → i < length ts
 signed_inside ts i (Plain n) h = slice_get_within ts i (Number n) h
 signed_inside ts i (Negated n) h = slice_get_within ts i Minus h.0
 
-one_list : (ts : List Lexeme) (i : ℕ) (xs ys : List Signed) → AreNumbers ts i xs → AreNumbers ts i ys → xs ≡ ys
+pub one_list : (ts : List Lexeme) (i : ℕ) (xs ys : List Signed) → AreNumbers ts i xs → AreNumbers ts i ys → xs ≡ ys
 one_list ts i [] [] p q = refl
 one_list ts i [] (y ∷ ys) p q = absurd (let a = signed_inside ts i y q.0 in omega (arith, a))
 one_list ts i (x ∷ xs) [] p q = absurd (let a = signed_inside ts i x p.0 in omega (arith, a))
@@ -190,15 +170,3 @@ one_list ts i (x ∷ xs) (y ∷ ys) p q =
     let e = one_signed ts i x y p.0 q.0 in
     let h = one_list ts (i + signed_size x) xs ys p.1 (subst (λ s. AreNumbers ts (i + signed_size s) ys) (sym e) q.1) in
     λ j. e j ∷ h j
-
-one_has : (ts : List Lexeme) (a b : Option (List Signed)) → HasNumbers ts a → HasNumbers ts b → a ≡ b
-one_has ts None None p q = refl
-one_has ts None (Some b) p q = absurd (p b q)
-one_has ts (Some a) None p q = absurd (q a p)
-one_has ts (Some a) (Some b) p q = ap Some (one_list ts 0 a b p q)
-
-pub one_word_form : (ts : List Lexeme) (a b : WordForm) → IsWordForm ts a → IsWordForm ts b → a ≡ b
-one_word_form ts a b p q = let n = one_has ts a.numbers b.numbers p q in λ j. record { numbers = n j }
-
-pub some_word_form : (ts : List Lexeme) → ((a : WordForm) → IsWordForm ts a → ⊥) → ⊥
-some_word_form ts none = none (record { numbers = None }) (λ ns is. none (record { numbers = Some ns }) is)

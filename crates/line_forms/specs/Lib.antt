@@ -3,7 +3,6 @@ pub mod Trees
 pub mod Grammar
 pub mod Longest
 pub mod Forms
-pub mod Views
+pub mod Parsing
 pub mod Limits
-pub mod Formed
 pub mod CutForms

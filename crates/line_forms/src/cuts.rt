@@ -5,7 +5,7 @@ ghost use Rattle.line_forms.specs.Grammar.{Has};
 ghost use Rattle.line_forms.specs.Longest.{Derives};
 ghost use Rattle.line_forms.specs.CutForms.{IsCut, IsCutsVersion};
 
-use crate::error::FormError;
+use crate::error::ParseError;
 use crate::keyword::Keyword;
 use crate::line::Line;
 use crate::lookup::{keyword_at, number_at};
@@ -21,7 +21,7 @@ pub enum CutsForm {
     Cut(TestForm),
 }
 
-fn cut(alloc: Global, line: &Line) -> Result<TestForm, FormError>
+fn cut(alloc: Global, line: &Line) -> Result<TestForm, ParseError>
     requires short { length line.now ≤ 1024 }
     requires key { Has line.now 0 (lexeme.Reserved word.Cut) }
     ensures { Derives (IsCut line.now) result }
@@ -31,7 +31,7 @@ fn cut(alloc: Global, line: &Line) -> Result<TestForm, FormError>
         Err(error) => return Err(error),
     };
     if line.len() != end {
-        return Err(FormError::Form);
+        return Err(ParseError::Form);
     }
     Ok(test)
 }
@@ -57,17 +57,17 @@ impl LineForm for CutsForm {
 
     ghost Small = { IsSmallCutsForm };
 
-    fn read(alloc: Global, line: &Line) -> Result<CutsForm, FormError> {
+    fn read(alloc: Global, line: &Line) -> Result<CutsForm, ParseError> {
         match keyword_at(line, 0) {
             Some(Keyword::Cuts) => match cuts_version(line) {
                 Some(version) => Ok(CutsForm::Version(version)),
-                None => Err(FormError::Form),
+                None => Err(ParseError::Form),
             },
             Some(Keyword::Cut) => match cut(alloc, line) {
                 Ok(test) => Ok(CutsForm::Cut(test)),
                 Err(error) => Err(error),
             },
-            _ => Err(FormError::Form),
+            _ => Err(ParseError::Form),
         }
     }
 

@@ -6,10 +6,9 @@ ghost use Rattle.line_forms.specs.declared.lexeme.Lexeme.{Lexeme};
 ghost use Rattle.line_forms.specs.declared.parsed.ParsedLine.{ParsedLine};
 ghost use Rattle.line_forms.specs.Lexemes.{IsLexed};
 ghost use Rattle.line_forms.specs.Longest.{Derives};
-ghost use Rattle.line_forms.specs.Views.{IsView};
-ghost use Rattle.line_forms.specs.Formed.{IsSeen};
+ghost use Rattle.line_forms.specs.Parsing.{AreParsed, IsParsed};
 
-use crate::error::FormError;
+use crate::error::ParseError;
 use crate::keyword::Keyword;
 use crate::line::Line;
 use crate::lookup::keyword_at;
@@ -23,7 +22,7 @@ pub trait LineForm: Drop {
     ghost Small: { Self → Type 0 };
 
     /// What a line says, where its tokens derive from a form.
-    fn read(alloc: Global, line: &Line) -> Result<Self, FormError>
+    fn read(alloc: Global, line: &Line) -> Result<Self, ParseError>
         requires { length line.now ≤ 1024 }
         ensures { Derives (Is line.now) result };
 
@@ -36,7 +35,7 @@ pub trait LineForm: Drop {
         ensures { (line : List ℕ) (ts : List Lexeme) (said : Self) → IsLexed line ts → Is ts said → Small said };
 }
 
-/// What is seen of a line before it is checked: its first word, where that is reserved, and what it says, where its
+/// A line as it is parsed, before it is checked: its first word, where that is reserved, and what it says, where its
 /// tokens derive from a form.
 #[derive(Drop)]
 pub struct ParsedLine<F> {
@@ -44,10 +43,10 @@ pub struct ParsedLine<F> {
     pub form: Option<F>,
 }
 
-/// What is seen of a line: its first word, and what it says.
-pub fn look<F: LineForm>(alloc: Global, line: &Line) -> Result<ParsedLine<F>, AllocError>
+/// The first word of a line, and what it says.
+pub fn parse_lexemes<F: LineForm>(alloc: Global, line: &Line) -> Result<ParsedLine<F>, AllocError>
     requires { length line.now ≤ 1024 }
-    ensures { IfOk result (IsSeen F.Is line.now) }
+    ensures { IfOk result (AreParsed F.Is line.now) }
 {
     let head = keyword_at(line, 0);
     match F::read(alloc, line) {
@@ -55,30 +54,30 @@ pub fn look<F: LineForm>(alloc: Global, line: &Line) -> Result<ParsedLine<F>, Al
             head,
             form: Some(form),
         }),
-        Err(FormError::Form) => Ok(ParsedLine { head, form: None }),
-        Err(FormError::Memory) => Err(AllocError),
+        Err(ParseError::Form) => Ok(ParsedLine { head, form: None }),
+        Err(ParseError::Memory) => Err(AllocError),
     }
 }
 
-/// A line is one thing at most.
-pub fn one_seen<F: LineForm>()
+/// A line is parsed in one way at most.
+pub fn one_parse<F: LineForm>()
     ensures { (line : List ℕ) (a b : Result (Option (ParsedLine F)) TokenError)
-        → IsView (IsSeen F.Is) line a → IsView (IsSeen F.Is) line b → a ≡ b }
+        → IsParsed (AreParsed F.Is) line a → IsParsed (AreParsed F.Is) line b → a ≡ b }
 {
     F::one();
     one_tokenizing();
 }
 
-/// It cannot be that a line is nothing.
-pub fn some_seen<F: LineForm>()
+/// It cannot be that a line is parsed in no way.
+pub fn some_parse<F: LineForm>()
     ensures { (line : List ℕ)
-        → ((a : Result (Option (ParsedLine F)) TokenError) → IsView (IsSeen F.Is) line a → ⊥) → ⊥ }
+        → ((a : Result (Option (ParsedLine F)) TokenError) → IsParsed (AreParsed F.Is) line a → ⊥) → ⊥ }
 {}
 
 /// What a line says is as small as the limits on its tokens leave it.
-pub fn small_seen<F: LineForm>()
-    ensures { (line : List ℕ) (seen : ParsedLine F)
-        → IsView (IsSeen F.Is) line (Ok (Some seen)) → ForSome seen.form F.Small }
+pub fn small_parse<F: LineForm>()
+    ensures { (line : List ℕ) (parsed : ParsedLine F)
+        → IsParsed (AreParsed F.Is) line (Ok (Some parsed)) → ForSome parsed.form F.Small }
 {
     F::small();
 }
