@@ -17,7 +17,7 @@ use Rattle.line_checks.specs.declared.sum.Sum.{Sum}
 use Rattle.line_checks.specs.Names.{Names, is_same, place_of, variable_in, variable_of}
 use Rattle.line_checks.specs.Sums.{name_of_term, factor_of, signed, is_negative, variable_of_term, with_value, add_term, collect, nothing}
 use Rattle.line_checks.specs.Sums.{form_of, comparison_of, value_form_of}
-use Rattle.line_checks.specs.inside.Passing.{weight}
+use Rattle.line_checks.specs.inside.Weight.{weight}
 use Rattle.line_checks.proofs.Sums.{weight_collect}
 
 -- the number of a name that is found is below that of all names

@@ -2,6 +2,7 @@
 use Rattle.std.proofs.Common.{◌≡◌, ◌≤◌, ◌<◌, ◌+◌, ◌*◌, ℕ, zero, suc, ℤ, pos, ◌+ℤ◌, Bool, true, false, List, [], ◌∷◌, length, drop, get_or, Option}
 use Rattle.std.proofs.Common.{Some, None, sym, ◌∙◌, ap, arith}
 use Rattle.std.specs.Prelude.{unsigned_abs, slice_set, slice_index_or}
+use Rattle.std.specs.Option.{option_or}
 use Rattle.std.proofs.lemmas.Int.{ints}
 use Rattle.std.proofs.lemmas.List.{drop_more}
 use Rattle.std.proofs.lemmas.List.Elements.{All-head, All-tail}
@@ -15,16 +16,16 @@ use Rattle.line_checks.specs.declared.scope.Variable.{Variable}
 use Rattle.line_checks.specs.declared.scope.Variable.TheVariants.{Input, Memory}
 use Rattle.line_checks.specs.declared.sum.Sum.{Sum}
 use Rattle.line_checks.specs.Names.{Names}
-use Rattle.line_checks.specs.inside.Passing.{weight}
-use Rattle.line_checks.specs.Sums.{or_else, term_check, sum_check, variable_of_term, factor_of, signed, is_negative, with_value, add_term, collect}
+use Rattle.line_checks.specs.inside.Weight.{weight}
+use Rattle.line_checks.specs.Sums.{term_check, sum_check, variable_of_term, factor_of, signed, is_negative, with_value, add_term, collect}
 use Rattle.line_checks.specs.declared.scope.NameFault.{NameFault}
 
 -- a term that is refused refuses all of them
 pub terms_failed : (s : Names) (terms : List SignedTerm) (i : ℕ) (t : SignedTerm) (e : NameFault) → i < length terms → t ≡ get_or terms i t
     → sum_check s (drop i terms) ≡ sum_check s terms → term_check s t.term ≡ Some e → sum_check s terms ≡ Some e
 terms_failed s terms i t r less is same h =
-    sym same ∙ ap (sum_check s) (drop_more terms i t less) ∙ ap (λ b. or_else (term_check s b.term) (sum_check s (drop (i + 1) terms))) (sym is)
-    ∙ ap (λ o. or_else o (sum_check s (drop (i + 1) terms))) h
+    sym same ∙ ap (sum_check s) (drop_more terms i t less) ∙ ap (λ b. option_or (term_check s b.term) (sum_check s (drop (i + 1) terms))) (sym is)
+    ∙ ap (λ o. option_or o (sum_check s (drop (i + 1) terms))) h
 
 larger : (x z : ℤ) → unsigned_abs (x +ℤ z) ≤ unsigned_abs x + unsigned_abs z
 larger x z = omega (arith, ints)

@@ -18,8 +18,8 @@ abbrev pub is_same : List ℕ → List ℕ → Bool
 is_same = pointwise nat_eq
 
 -- one of the names is this one
-abbrev pub is_declared : List ℕ → List (List ℕ) → Bool
-is_declared name names = list_any (is_same name) names
+abbrev pub has_name : List ℕ → List (List ℕ) → Bool
+has_name name names = list_any (is_same name) names
 
 -- the number of the first declaration of a name
 abbrev pub place_of : List ℕ → List (List ℕ) → Option ℕ
@@ -42,7 +42,7 @@ use_check None true = Some Misuse
 use_check None false = Some Unknown
 
 abbrev pub name_check : Names → List ℕ → Option NameFault
-name_check s name = use_check (variable_of s name) (is_declared name s.misused)
+name_check s name = use_check (variable_of s name) (has_name name s.misused)
 
 -- the inputs of a signature alone
 abbrev pub input_scope : Signature → Names

@@ -6,7 +6,7 @@ use Rattle.line_tokens.specs.declared.token.Token.{Token}
 use Rattle.line_tokens.specs.Lines.{content_of}
 use Rattle.line_forms.specs.declared.lexeme.Lexeme.{Lexeme}
 use Rattle.line_forms.specs.Lexemes.{lexeme_of}
-use Rattle.line_forms.specs.Grammar.{Guard, IsGuard, guard_size, guard_tree}
+use Rattle.line_forms.specs.Grammar.{Guard, IsGuardText, guard_size, guard_tree}
 use Rattle.line_forms.specs.Longest.{IsLongest}
 use Rattle.line_forms.specs.Trees.{tests_of}
 use Rattle.line_checks.specs.declared.run.GuardError.{GuardError}
@@ -25,14 +25,14 @@ GivesEnd {T} Is size at None = (said : T) → Is at said → ⊥
 
 -- the longest run ends before `end` and is this guard
 abbrev pub IsRun : List Lexeme → ℕ → ℕ → Guard → Type 0
-IsRun ts at end said = IsLongest (IsGuard ts) guard_size at end said
+IsRun ts at end said = IsLongest (IsGuardText ts) guard_size at end said
 
 -- the guard of the longest run over the names; or there is no run; or it has more than 64 comparisons; or its first
 -- name from the left that passes no check
 abbrev pub GivesGuard : List Lexeme → Names → ℕ → ℕ → Result (model.Guard × ℕ) GuardError → Type 0
 GivesGuard ts s width at (Ok r) = (said : Guard) × IsRun ts at r.1 said × (tests_of (guard_tree said) ≤ 64)
     × (guard_check s (guard_tree said) ≡ None) × (plain r.0 ≡ guard_of s width (guard_tree said))
-GivesGuard ts s width at (Err guard_error.Form) = (said : Guard) → IsGuard ts at said → ⊥
+GivesGuard ts s width at (Err guard_error.Form) = (said : Guard) → IsGuardText ts at said → ⊥
 GivesGuard ts s width at (Err guard_error.Comparisons) = (end : ℕ) × (said : Guard) × IsRun ts at end said
     × (64 < tests_of (guard_tree said))
 GivesGuard ts s width at (Err (guard_error.Fault fault)) = (end : ℕ) × (said : Guard) × IsRun ts at end said

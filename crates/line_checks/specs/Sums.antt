@@ -2,6 +2,7 @@
 -- checked from left to right.
 use Rattle.std.specs.Prelude.{◌≡◌, ℕ, ℤ, pos, ◌+ℤ◌, ◌-ℤ◌, Bool, true, false, if◌then◌else◌, ◌==◌, ◌<◌, List, [], ◌∷◌}
 use Rattle.std.specs.Prelude.{replicate, take, slice_index_or, slice_set, Option, Some, None, option_and_then}
+use Rattle.std.specs.Option.{option_or}
 use Rattle.lin_form.specs.declared.form.Form.{Form}
 use Rattle.lin_form.specs.declared.form.Comparison.{Comparison}
 use Rattle.line_forms.specs.declared.statement.Term.{Term}
@@ -13,10 +14,6 @@ use Rattle.line_checks.specs.declared.scope.Variable.TheVariants.{Input, Memory}
 use Rattle.line_checks.specs.declared.scope.NameFault.{NameFault}
 use Rattle.line_checks.specs.declared.sum.Sum.{Sum}
 use Rattle.line_checks.specs.Names.{Names, variable_of, name_check}
-
-abbrev pub or_else : Option NameFault → Option NameFault → Option NameFault
-or_else (Some found) other = Some found
-or_else None other = other
 
 abbrev pub name_of_term : Term → Option (List ℕ)
 name_of_term (term.Number n) = None
@@ -40,10 +37,10 @@ term_check s t = some_name_check s (name_of_term t)
 -- the names of a sum from left to right
 abbrev pub sum_check : Names → List SignedTerm → Option NameFault
 sum_check s [] = None
-sum_check s (t ∷ terms) = or_else (term_check s t.term) (sum_check s terms)
+sum_check s (t ∷ terms) = option_or (term_check s t.term) (sum_check s terms)
 
 abbrev pub test_check : Names → TestForm → Option NameFault
-test_check s t = or_else (sum_check s t.left) (sum_check s t.right)
+test_check s t = option_or (sum_check s t.left) (sum_check s t.right)
 
 abbrev pub signed : Bool → ℕ → ℤ
 signed true n = pos 0 -ℤ pos n

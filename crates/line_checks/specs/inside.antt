@@ -1,2 +1,2 @@
 -- What functions of this crate promise one another.
-pub mod Passing
+pub mod Weight

@@ -45,7 +45,7 @@ pub fn resolved<S: Scope>(
     alloc: Global,
     scope: &S,
     width: usize,
-    guard: &line_forms::Condition,
+    guard: &line_forms::GuardTree,
 ) -> Result<Guard, Unresolved>
     requires few { width ≤ 6 }
     requires small { AreSmallTests (written.plain guard.now) }
@@ -53,18 +53,18 @@ pub fn resolved<S: Scope>(
         (guard_of (S.names scope.now) width (written.plain guard.now)) result }
 {
     match guard {
-        line_forms::Condition::Test(test) => match comparison(alloc, scope, width, test) {
+        line_forms::GuardTree::Test(test) => match comparison(alloc, scope, width, test) {
             Ok(comparison) => Ok(Guard::Test(comparison)),
             Err(fault) => Err(Unresolved::Fault(fault)),
         },
-        line_forms::Condition::Not(inner) => {
+        line_forms::GuardTree::Not(inner) => {
             let inner = resolved(alloc, scope, width, inner)?;
             match negation(alloc, inner) {
                 Ok(guard) => Ok(guard),
                 Err(_) => Err(Unresolved::Memory),
             }
         }
-        line_forms::Condition::And(first, second) => {
+        line_forms::GuardTree::And(first, second) => {
             let first = resolved(alloc, scope, width, first)?;
             let second = resolved(alloc, scope, width, second)?;
             match conjunction(alloc, first, second) {
@@ -72,7 +72,7 @@ pub fn resolved<S: Scope>(
                 Err(_) => Err(Unresolved::Memory),
             }
         }
-        line_forms::Condition::Or(first, second) => {
+        line_forms::GuardTree::Or(first, second) => {
             let first = resolved(alloc, scope, width, first)?;
             let second = resolved(alloc, scope, width, second)?;
             match disjunction(alloc, first, second) {
@@ -84,18 +84,18 @@ pub fn resolved<S: Scope>(
 }
 
 /// How many more comparisons a guard may have of so many, or None where it has more.
-pub fn comparisons_left(guard: &line_forms::Condition, most: usize) -> Option<usize>
+pub fn comparisons_left(guard: &line_forms::GuardTree, most: usize) -> Option<usize>
     ensures { MatchOption result (most < written.tests_of (written.plain guard.now))
         (λ left. written.tests_of (written.plain guard.now) + left ≡ most) }
 {
     match guard {
-        line_forms::Condition::Test(_) => most.checked_sub(1),
-        line_forms::Condition::Not(inner) => comparisons_left(inner, most),
-        line_forms::Condition::And(first, second) => {
+        line_forms::GuardTree::Test(_) => most.checked_sub(1),
+        line_forms::GuardTree::Not(inner) => comparisons_left(inner, most),
+        line_forms::GuardTree::And(first, second) => {
             let left = comparisons_left(first, most)?;
             comparisons_left(second, left)
         }
-        line_forms::Condition::Or(first, second) => {
+        line_forms::GuardTree::Or(first, second) => {
             let left = comparisons_left(first, most)?;
             comparisons_left(second, left)
         }

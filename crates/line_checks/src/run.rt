@@ -1,7 +1,7 @@
 //! Guards among the tokens of a line.
 ghost use Rattle.std.specs.Prelude.{◌≡◌, ◌<◌, ◌≤◌, length, IfOk, IfSome};
 ghost use Rattle.line_tokens.specs.Limits.{IsRead};
-ghost use Rattle.line_forms.specs.Grammar.{IsGuard, guard_size, guard_tree};
+ghost use Rattle.line_forms.specs.Grammar.{IsGuardText, guard_size, guard_tree};
 ghost use Rattle.line_forms.specs.Limits.{AreSmallTests};
 ghost use Rattle.line_forms.specs.Longest.{GivesTree};
 ghost use Rattle.line_forms.specs.Trees as written;
@@ -12,7 +12,7 @@ use crate::scope::{NameFault, Scope};
 use crate::walk;
 use crate::written::Written;
 use chart_model::Guard;
-use line_forms::{FormError, Line};
+use line_forms::{Line, ParseError};
 use line_tokens::{Token, content};
 use std::alloc::Global;
 
@@ -32,7 +32,7 @@ pub enum GuardError {
 /// its names and however many its comparisons, given all tokens of the line. It takes no memory.
 pub fn guard_end(line: &[u8], tokens: &[Token], at: usize) -> Option<usize>
     requires { IsRead line.now tokens.now }
-    ensures found { GivesEnd (IsGuard (lexemes_of line.now tokens.now)) guard_size at result }
+    ensures found { GivesEnd (IsGuardText (lexemes_of line.now tokens.now)) guard_size at result }
     ensures inside { IfSome result (λ end. (at < end) × (end ≤ length tokens.now)) }
 {
     walk::guard_end(&Written::new(content(line), tokens), at)
@@ -44,15 +44,15 @@ fn guard_in(
     line: &[u8],
     tokens: &[Token],
     at: usize,
-) -> Result<(line_forms::Condition, usize), FormError>
+) -> Result<(line_forms::GuardTree, usize), ParseError>
     requires { IsRead line.now tokens.now }
     ensures small { IfOk result (λ r. AreSmallTests (written.plain r.0)) }
-    ensures found { GivesTree (IsGuard (lexemes_of line.now tokens.now)) guard_size guard_tree at result }
+    ensures found { GivesTree (IsGuardText (lexemes_of line.now tokens.now)) guard_size guard_tree at result }
 {
     let mut lexemes = Line::new(alloc);
     match lexemes.fill(content(line), tokens) {
         Ok(()) => {}
-        Err(_) => return Err(FormError::Memory),
+        Err(_) => return Err(ParseError::Memory),
     }
     match line_forms::guard_at(alloc, &lexemes, at) {
         Ok(found) => Ok(found),
@@ -79,8 +79,8 @@ pub fn guard_at<S: Scope>(
 {
     let (tree, end) = match guard_in(alloc, line, tokens, at) {
         Ok(found) => found,
-        Err(FormError::Form) => return Err(GuardError::Form),
-        Err(FormError::Memory) => return Err(GuardError::Memory),
+        Err(ParseError::Form) => return Err(GuardError::Form),
+        Err(ParseError::Memory) => return Err(GuardError::Memory),
     };
     match comparisons_left(&tree, 64) {
         Some(_) => {}

@@ -1,11 +1,11 @@
 ghost use Rattle.std.specs.Prelude.{◌≡◌, ◌≤◌, ◌<◌, ◌+◌, ◌*◌, ◌^◌, length, unsigned_abs, Some, None, IfOk, OnOk};
 ghost use Rattle.line_forms.specs.Limits.{IsSmallTerm, IsSmallTest, AreSmallTerms};
 ghost use Rattle.chart_model.specs.Chart.{IsFormOver};
-ghost use Rattle.line_checks.specs.Answers.{Answers, HasPlace};
+ghost use Rattle.line_checks.specs.Answers.{Gives, HasPlace, MakesCheck};
 ghost use Rattle.line_checks.specs.Sums.{term_check, sum_check, test_check, factor_of, signed, with_value};
 ghost use Rattle.line_checks.specs.Sums.{variable_of_term, name_of_term, is_negative, add_term, collect, nothing};
 ghost use Rattle.line_checks.specs.Sums.{form_of, comparison_of, value_form_of};
-ghost use Rattle.line_checks.specs.inside.Passing.{Passes, weight};
+ghost use Rattle.line_checks.specs.inside.Weight.{weight};
 
 use crate::scope::{NameFault, Scope, Variable};
 use lin_form::{Comparison, Form, Name, Vector};
@@ -89,7 +89,7 @@ fn is_negative(subtracted: bool, negated: bool) -> bool
 
 /// What the name of a term stands for, if it has one.
 fn term_variable<S: Scope>(scope: &S, term: Term) -> Result<Option<Variable>, NameFault>
-    ensures found { Answers (term_check (S.names scope.now) term) (variable_of_term (S.names scope.now) term) result }
+    ensures found { Gives (term_check (S.names scope.now) term) (variable_of_term (S.names scope.now) term) result }
     ensures within { IfOk result HasPlace }
 {
     let Some(name) = name_of(term) else {
@@ -109,7 +109,7 @@ fn add_term<S: Scope>(
 ) -> Result<(), NameFault>
     requires small { IsSmallTerm term.now.term }
     requires light { weight sum.old ≤ 512000000 }
-    ensures check { Passes (term_check (S.names scope.now) term.now.term) result }
+    ensures check { MakesCheck (term_check (S.names scope.now) term.now.term) result }
     ensures added { OnOk result (sum.new ≡ add_term (S.names scope.now) subtracted sum.old term.now) }
     ensures light { OnOk result (weight sum.new ≤ weight sum.old + 1000000) }
 {
@@ -132,7 +132,7 @@ fn collect<S: Scope>(
 ) -> Result<(), NameFault>
     requires small { AreSmallTerms terms.now }
     requires light { weight sum.old + 1000000 * length terms.now ≤ 512000000 }
-    ensures check { Passes (sum_check (S.names scope.now) terms.now) result }
+    ensures check { MakesCheck (sum_check (S.names scope.now) terms.now) result }
     ensures added { OnOk result (sum.new ≡ collect (S.names scope.now) subtracted sum.old terms.now) }
     ensures light { OnOk result (weight sum.new ≤ weight sum.old + 1000000 * length terms.now) }
 {
@@ -165,7 +165,7 @@ pub fn comparison<S: Scope>(
 ) -> Result<Comparison, NameFault>
     requires few { width ≤ 6 }
     requires small { IsSmallTest test.now }
-    ensures value { Answers (test_check (S.names scope.now) test.now)
+    ensures value { Gives (test_check (S.names scope.now) test.now)
         (comparison_of (S.names scope.now) width test.now) result }
     ensures form { IfOk result (λ c. IsFormOver width (length (S.names scope.now).memories) c.form) }
 {
@@ -194,7 +194,7 @@ pub fn value_form<S: Scope>(
     requires few { width ≤ 6 }
     requires short { length terms.now ≤ 512 }
     requires small { AreSmallTerms terms.now }
-    ensures value { Answers (sum_check (S.names scope.now) terms.now)
+    ensures value { Gives (sum_check (S.names scope.now) terms.now)
         (value_form_of (S.names scope.now) width terms.now) result }
     ensures form { IfOk result (λ form. IsFormOver width (length (S.names scope.now).memories) form) }
 {

@@ -3,7 +3,7 @@ ghost use Rattle.std.specs.Prelude.{◌≡◌, ◌+◌, ◌<◌, ◌≤◌, leng
 ghost use Rattle.line_forms.specs.declared.lexeme.Lexeme.TheVariants as lexeme;
 ghost use Rattle.line_forms.specs.declared.statement.SignedTerm.{SignedTerm};
 ghost use Rattle.line_forms.specs.Grammar.{Has, IsTerm, term_size, sign_of, IsSum, sum_size, IsTest, test_size};
-ghost use Rattle.line_forms.specs.Grammar.{IsGuard, guard_size, IsConj, conj_size, IsUnit, unit_size};
+ghost use Rattle.line_forms.specs.Grammar.{IsGuardText, guard_size, IsConj, conj_size, IsUnit, unit_size};
 ghost use Rattle.line_forms.specs.Longest.{IsLongest, IsLed};
 ghost use Rattle.line_checks.specs.Runs.{GivesEnd};
 
@@ -192,7 +192,7 @@ fn conj_end(line: &Written, at: usize) -> Option<usize>
 #[cycle(walk)]
 pub fn guard_end(line: &Written, at: usize) -> Option<usize>
     requires short { length line.now ≤ 1024 }
-    ensures found { GivesEnd (IsGuard line.now) guard_size at result }
+    ensures found { GivesEnd (IsGuardText line.now) guard_size at result }
     ensures inside { IfSome result (λ end. (at < end) × (end ≤ length line.now)) }
 {
     let Some(mut end) = conj_end(line, at) else {

@@ -1,4 +1,4 @@
-use Rattle.std.proofs.Common.{◌≡◌, refl}
+use Rattle.std.proofs.Common.{refl}
 use Rattle.line_forms.proofs.Sound.{sound_line}
 use Rattle.line_checks.proofs.run.guard_end.Goals as goal
 

@@ -1,5 +1,5 @@
 use Rattle.std.proofs.Common.{◌≡◌, ◌≤◌, ◌+◌, ◌*◌, drop}
-use Rattle.line_checks.specs.inside.Passing.{weight}
+use Rattle.line_checks.specs.inside.Weight.{weight}
 use Rattle.line_checks.specs.Sums.{sum_check, collect}
 use Rattle.line_checks.proofs.sum.collect.Given as goal
 

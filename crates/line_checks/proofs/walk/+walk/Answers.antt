@@ -1,7 +1,7 @@
 use Rattle.std.proofs.Common.{refl, arith}
 use Rattle.line_forms.specs.Trees as tree
 use Rattle.line_forms.specs.Grammar.{not, paren, test, unit_tree, conj_tree}
-use Rattle.line_forms.specs.declared.error.FormError.TheVariants.{Form}
+use Rattle.line_forms.specs.declared.error.ParseError.TheVariants.{Form}
 use Rattle.line_forms.proofs.Chains.{not_longest, not_failed, paren_longest, paren_failed, not_closed, unit_test, unit_failed, conj_begin}
 use Rattle.line_forms.proofs.Chains.{conj_failed, conj_next, conj_end, guard_begin, guard_failed, guard_next, guard_end}
 use Rattle.line_checks.proofs.walk.+walk.Goals as goal

@@ -1,5 +1,5 @@
 use Rattle.line_forms.specs.declared.statement.TestForm.{TestForm}
-use Rattle.line_forms.specs.declared.error.FormError.TheVariants.{Form}
+use Rattle.line_forms.specs.declared.error.ParseError.TheVariants.{Form}
 use Rattle.line_forms.proofs.Ends.{no_relation, right_failed, test_longest}
 use Rattle.line_checks.proofs.walk.test_end.Goals as goal
 
