@@ -1,5 +1,5 @@
 -- What a plan means, and what it answers.
-use Rattle.std.specs.Prelude.{◌≡◌, ℤ, List, [], ◌∷◌, ◌++◌, length, drop}
+use Rattle.std.specs.Prelude.{◌≡◌, ℕ, ℤ, List, [], ◌∷◌, ◌++◌, length, drop, Option, None, Some}
 use Rattle.lin_form.specs.declared.signature.Signature.{Signature}
 use Rattle.lin_form.specs.Signature.{IsInInputRanges}
 use Rattle.input_classes.specs.VectorSet.{VectorSet, Word, IsWordOf, box_of}
@@ -48,3 +48,17 @@ IsReached m t = IsReachedOn (box_of m.signature []) m t
 abbrev pub RepliesFit : {S : Type 0} → Meaning S → Type 0
 RepliesFit {S} m = (t : S) (x : List ℤ) → IsReached m t → IsInInputRanges m.signature.inputs x
     → length (m.reply t x) ≡ length m.signature.outputs
+
+-- for each state and vector the number of the branch that the step takes, where it is told
+abbrev pub Branches : Type 0 → Type 0
+Branches S = S → List ℤ → Option ℕ
+
+-- no branch is told
+abbrev pub no_branches : {S : Type 0} → Branches S
+no_branches state vector = None
+
+-- k is a branch of a state: vectors of the ranges on which its step takes branch k lead from it to the same state with
+-- the same reply
+abbrev pub IsBranchOf : {S : Type 0} → Meaning S → Branches S → S → ℕ → Type 0
+IsBranchOf m branches t k = (x y : List ℤ) → IsInInputRanges m.signature.inputs x → IsInInputRanges m.signature.inputs y
+    → branches t x ≡ Some k → branches t y ≡ Some k → (m.next t x ≡ m.next t y) × (m.reply t x ≡ m.reply t y)
