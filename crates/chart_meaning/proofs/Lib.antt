@@ -8,6 +8,6 @@ pub mod Taking
 pub mod Starting
 pub mod Keeping
 pub mod Reaching
-pub mod Deciding
 pub mod Listing
+pub mod Deciding
 pub mod SmallCharts

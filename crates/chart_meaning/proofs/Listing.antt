@@ -1,15 +1,15 @@
 -- The rows of a leaf, as they are listed and as they are read.
 use Rattle.std.proofs.Common.{◌≡◌, ℕ, zero, suc, ◌+◌, ◌<◌, ◌≤◌, Bool, true, false, cond, List, [], ◌∷◌, ◌++◌, length, get_or, drop, Option, None}
 use Rattle.std.proofs.Common.{Some, Vec, ◌==◌, ◌&&◌, ◌⊎◌, inl, inr, ⊎_elim, refl, ap, sym, subst, ◌∙◌, arith, ℤ}
-use Rattle.std.specs.Prelude.{slice_get, find, filter}
+use Rattle.std.specs.Prelude.{not, slice_get, find, filter}
 use Rattle.std.specs.Option.{option_or}
-use Rattle.std.specs.List.{AllZip}
+use Rattle.std.specs.List.{AllZip, position_or_len}
 use Rattle.std.specs.declared.alloc.Global.{Global}
 use Rattle.std.proofs.lemmas.Bool.Decides.{nat_tests}
 use Rattle.std.proofs.lemmas.List.{append_assoc, append-nil, length_push, drop_more, drop_all}
 use Rattle.std.proofs.lemmas.List.Folds.{find-append}
 use Rattle.std.proofs.lemmas.List.FromFn.{get_or-map-range_with_len, length-map-range_with_len}
-use Rattle.std.proofs.lemmas.Option.{same_Some, slice_get_within}
+use Rattle.std.proofs.lemmas.Option.{same_Some, slice_get_past, slice_get_read, slice_get_within}
 use Rattle.chart_model.specs.declared.chart.Chart.{Chart}
 use Rattle.chart_model.specs.declared.state.State.{State}
 use Rattle.chart_model.specs.declared.transition.Transition.{Transition}
@@ -39,11 +39,16 @@ find-candidates transitions vector memory (s ∷ outer) =
     find-append (is_guard_true vector memory) own (candidates transitions outer)
     ∙ (λ i. option_or (find-filter (is_guard_true vector memory) (λ t. t.source == s) transitions i) (find-candidates transitions vector memory outer i))
 
+-- the place of the first transition whose guard holds, of those that may fire
+abbrev pub place_of_firing : Chart → ℕ → List ℤ → List ℤ → ℕ
+place_of_firing chart leaf vector memory = position_or_len (is_guard_true vector memory) (candidates chart.transitions (ancestors chart.states leaf))
+
 -- the first i rows do not fire
 pub record IsScanning (chart : Chart) (leaf : ℕ) (vector memory : List ℤ) (rows : List Row) (i : ℕ) : Type 0 where
   pub rest : List Transition
   pub zip : AllZip (IsRowOf chart leaf) rest (drop i rows)
   pub goes : find (is_guard_true vector memory) rest ≡ firing chart.transitions vector memory (ancestors chart.states leaf)
+  pub place : i + position_or_len (is_guard_true vector memory) rest ≡ place_of_firing chart leaf vector memory
 
 pub IsScanning-start : (chart : Chart) (leaf : ℕ) (vector memory : List ℤ) (rows : List Row) → AreRows chart leaf rows
     → IsScanning chart leaf vector memory rows 0
@@ -51,6 +56,7 @@ IsScanning-start chart leaf vector memory rows are = record {
   rest = candidates chart.transitions (ancestors chart.states leaf);
   zip = are;
   goes = find-candidates chart.transitions vector memory (ancestors chart.states leaf);
+  place = omega arith;
 }
 
 -- the next row, and its transition
@@ -61,20 +67,24 @@ pub record IsNextRow (chart : Chart) (leaf : ℕ) (vector memory : List ℤ) (ro
   pub zip : AllZip (IsRowOf chart leaf) rest (drop (i + 1) rows)
   pub goes : cond (is_guard_true vector memory transition) (Some transition) (find (is_guard_true vector memory) rest)
       ≡ firing chart.transitions vector memory (ancestors chart.states leaf)
+  pub place : i + cond (not (is_guard_true vector memory transition)) (1 + position_or_len (is_guard_true vector memory) rest) 0
+      ≡ place_of_firing chart leaf vector memory
 
 next_row : (chart : Chart) (leaf : ℕ) (vector memory : List ℤ) (rows : List Row) (i : ℕ) (row : Row)
     (rest : List Transition) → AllZip (IsRowOf chart leaf) rest (row ∷ drop (i + 1) rows)
     → find (is_guard_true vector memory) rest ≡ firing chart.transitions vector memory (ancestors chart.states leaf)
+    → i + position_or_len (is_guard_true vector memory) rest ≡ place_of_firing chart leaf vector memory
     → IsNextRow chart leaf vector memory rows i row
-next_row chart leaf vector memory rows i row [] zip goes = absurd zip
-next_row chart leaf vector memory rows i row (t ∷ rest) zip goes = record { transition = t; is = zip.0; rest = rest; zip = zip.1; goes = goes }
+next_row chart leaf vector memory rows i row [] zip goes place = absurd zip
+next_row chart leaf vector memory rows i row (t ∷ rest) zip goes place =
+    record { transition = t; is = zip.0; rest = rest; zip = zip.1; goes = goes; place = place }
 
 pub IsScanning-next : (chart : Chart) (leaf : ℕ) (vector memory : List ℤ) (rows : List Row) (i : ℕ) (row : Row)
     → i < length rows → row ≡ get_or rows i row → IsScanning chart leaf vector memory rows i
     → IsNextRow chart leaf vector memory rows i row
 IsScanning-next chart leaf vector memory rows i row h is s =
     let here : drop i rows ≡ row ∷ drop (i + 1) rows = drop_more rows i row h ∙ ap (λ (r : Row). r ∷ drop (i + 1) rows) (sym is) in
-    next_row chart leaf vector memory rows i row s.rest (subst (AllZip (IsRowOf chart leaf) s.rest) here s.zip) s.goes
+    next_row chart leaf vector memory rows i row s.rest (subst (AllZip (IsRowOf chart leaf) s.rest) here s.zip) s.goes s.place
 
 pub row_inside : (chart : Chart) (leaf : ℕ) (vector memory : List ℤ) (rows : List Row) (i : ℕ) (row : Row)
     → i < length rows → row ≡ get_or rows i row → IsScanning chart leaf vector memory rows i
@@ -90,12 +100,28 @@ IsScanning-more chart leaf vector memory rows i row n fails = record {
   rest = n.rest;
   zip = n.zip;
   goes = sym (ap (λ b. cond b (Some n.transition) (find (is_guard_true vector memory) n.rest)) fails) ∙ n.goes;
+  place =
+      let here = ap (λ b. i + cond (not b) (1 + position_or_len (is_guard_true vector memory) n.rest) 0) fails in
+      let place = n.place in
+      omega arith;
 }
 
-pub IsScanning-found : (chart : Chart) (leaf : ℕ) (vector memory : List ℤ) (rows : List Row) (i : ℕ) (row : Row)
+-- the place of the row that fires
+pub IsScanning-place : (chart : Chart) (leaf : ℕ) (vector memory : List ℤ) (rows : List Row) (i : ℕ) (row : Row)
     (n : IsNextRow chart leaf vector memory rows i row) → is_guard_true vector memory n.transition ≡ true
-    → IsRowThatFires chart leaf (firing chart.transitions vector memory (ancestors chart.states leaf)) (Some row)
-IsScanning-found chart leaf vector memory rows i row n holds =
+    → i ≡ place_of_firing chart leaf vector memory
+IsScanning-place chart leaf vector memory rows i row n holds =
+    let here = ap (λ b. i + cond (not b) (1 + position_or_len (is_guard_true vector memory) n.rest) 0) holds in
+    let place = n.place in
+    omega arith
+
+pub IsScanning-found : (chart : Chart) (leaf : ℕ) (vector memory : List ℤ) (rows : List Row) (i : ℕ) (row : Row)
+    (n : IsNextRow chart leaf vector memory rows i row) → i < length rows → row ≡ get_or rows i row
+    → is_guard_true vector memory n.transition ≡ true
+    → IsRowThatFires chart leaf (firing chart.transitions vector memory (ancestors chart.states leaf)) (slice_get rows i)
+IsScanning-found chart leaf vector memory rows i row n h is holds =
+    subst (IsRowThatFires chart leaf (firing chart.transitions vector memory (ancestors chart.states leaf)))
+    (sym (slice_get_read rows (length rows) i row refl h is))
     (n.transition, (sym n.goes ∙ ap (λ b. cond b (Some n.transition) (find (is_guard_true vector memory) n.rest)) holds, n.is))
 
 none_left : (chart : Chart) (leaf : ℕ) (vector memory : List ℤ) (rest : List Transition)
@@ -103,12 +129,29 @@ none_left : (chart : Chart) (leaf : ℕ) (vector memory : List ℤ) (rest : List
 none_left chart leaf vector memory [] zip = refl
 none_left chart leaf vector memory (t ∷ rest) zip = absurd zip
 
+-- where no row is left, none fires
 pub IsScanning-end : (chart : Chart) (leaf : ℕ) (vector memory : List ℤ) (rows : List Row) (i : ℕ) → length rows ≤ i
-    → IsScanning chart leaf vector memory rows i → firing chart.transitions vector memory (ancestors chart.states leaf)
-    ≡ None
+    → IsScanning chart leaf vector memory rows i
+    → IsRowThatFires chart leaf (firing chart.transitions vector memory (ancestors chart.states leaf)) (slice_get rows (length rows))
 IsScanning-end chart leaf vector memory rows i h s =
-    sym s.goes ∙ none_left chart leaf vector memory s.rest
-    (subst (AllZip (IsRowOf chart leaf) s.rest) (drop_all i rows h) s.zip)
+    subst (IsRowThatFires chart leaf (firing chart.transitions vector memory (ancestors chart.states leaf)))
+    (sym (slice_get_past rows (length rows) (omega arith)))
+    (sym s.goes ∙ none_left chart leaf vector memory s.rest
+    (subst (AllZip (IsRowOf chart leaf) s.rest) (drop_all i rows h) s.zip))
+
+place_left : (chart : Chart) (leaf : ℕ) (vector memory : List ℤ) (rest : List Transition)
+    → AllZip (IsRowOf chart leaf) rest [] → position_or_len (is_guard_true vector memory) rest ≡ 0
+place_left chart leaf vector memory [] zip = refl
+place_left chart leaf vector memory (t ∷ rest) zip = absurd zip
+
+-- and the place is past them all
+pub IsScanning-past : (chart : Chart) (leaf : ℕ) (vector memory : List ℤ) (rows : List Row) (i : ℕ) → i ≡ length rows
+    → IsScanning chart leaf vector memory rows i → length rows ≡ place_of_firing chart leaf vector memory
+IsScanning-past chart leaf vector memory rows i h s =
+    let none = place_left chart leaf vector memory s.rest
+    (subst (AllZip (IsRowOf chart leaf) s.rest) (drop_all i rows (omega (arith, h))) s.zip) in
+    let place = s.place in
+    omega (arith, h)
 
 pub AllZip-grown : {A B : Type 0} (R : A → B → Type 0) (xs : List A) (ys : List B) (x : A) (y : B) → AllZip R xs ys
     → R x y → AllZip R (xs ++ x ∷ []) (ys ++ y ∷ [])

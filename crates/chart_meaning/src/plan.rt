@@ -1,6 +1,7 @@
 ghost use Rattle.std.specs.Prelude.{◌≡◌, IfOk};
 ghost use Rattle.lin_form.specs.Signature.{IsInInputRanges};
 ghost use Rattle.chart_meaning.specs.IsConfiguration.{IsConfiguration};
+ghost use Rattle.chart_meaning.specs.Plan.{branch_of};
 ghost use Rattle.chart_meaning.specs.Step.{next_of, reply_of, start_of};
 
 use crate::config::Config;
@@ -80,10 +81,13 @@ impl ChartPlan {
         ensures reply { result.reply ≡ reply_of self.now config.now input.now }
         ensures configuration { IsConfiguration self.now result.state }
     {
-        let mut state = *config;
-        self.go_on(&mut state, input);
-        let reply = Reply::from_slice(state.outputs());
-        Step { state, reply }
+        let mut step = Step {
+            state: *config,
+            reply: Reply::from_slice(&[]),
+        };
+        self.go_on(&mut step.state, input);
+        step.reply = Reply::from_slice(step.state.outputs());
+        step
     }
 
     /// Makes one step in place: the configuration becomes that to which `step` leads. It takes no memory.
@@ -94,19 +98,33 @@ impl ChartPlan {
         ensures configuration { IsConfiguration self.now config.new }
     {
         let rows = &self.rows[config.leaf()];
-        if let Some(row) = firing(&self.chart, rows.as_slice(), config, input) {
+        let place = firing(&self.chart, rows.as_slice(), config, input);
+        if let Some(row) = rows.get(place) {
             take_row(&self.chart, self.ways.as_slice(), row, config);
         }
+    }
+
+    /// The number of the branch that a step takes: among the transitions that may fire, the place of the one that fires;
+    /// where none fires, their number. Inputs with one branch lead from a configuration to the same configuration.
+    pub fn branch(&self, config: &Config, input: &Vector) -> usize
+        requires fits { IsInInputRanges self.now.signature.inputs input.now }
+        requires configuration { IsConfiguration self.now config.now }
+        ensures { result ≡ branch_of self.now config.now input.now }
+    {
+        let rows = &self.rows[config.leaf()];
+        firing(&self.chart, rows.as_slice(), config, input)
     }
 }
 
 impl Plan for ChartPlan {
     type State = Config;
 
-    ghost use Rattle.chart_meaning.specs.Plan.{plan_of_chart};
+    ghost use Rattle.chart_meaning.specs.Plan.{branches_of_chart, plan_of_chart};
     ghost use Rattle.chart_meaning.specs.Same.{same_configurations};
 
     ghost plan = { plan_of_chart };
+
+    ghost branches = { branches_of_chart };
 
     fn signature(&self) -> &Signature {
         &self.chart.signature
@@ -119,6 +137,11 @@ impl Plan for ChartPlan {
     #[inline(always)]
     fn advance(&self, state: &Config, input: &Vector) -> Step<Config> {
         self.step(state, input)
+    }
+
+    fn branch(&self, state: &Config, input: &Vector) -> Option<usize> {
+        let number = self.branch(state, input);
+        Some(number)
     }
 
     ghost same = { same_configurations };
