@@ -1,13 +1,26 @@
-//! Lines of a suite's text, made in a scratch: a letter takes at most 6 bytes with its space, a number at most 21.
+//! Lines of a suite's text, made in a scratch: a letter takes at most 6 bytes with its space, a number at most 21. Digits
+//! are pushed one by one, since most numbers have one or two.
 ghost use Rattle.std.specs.Prelude.{◌≡◌, ◌+◌, ◌*◌, ◌<◌, ◌≤◌, ◌++◌, ◌∷◌, [], length, take, slice_index, codes};
 ghost use Rattle.std.specs.Fmt.{decimal, signed_decimal};
 ghost use Rattle.strict_lines.specs.Lines.{line_text, tail_text};
 ghost use Rattle.suite_model.specs.Text.{numbers, letters, natural_line, input_line, output_line, class_line, letters_line, step_line};
 ghost use Rattle.suite_text.specs.inside.Lines.{Pushes, Sets};
 
-use itoa::Buffer;
 use lin_form::{Input, Name};
 use suite_model::Scratch;
+
+/// Pushes the digits of a number.
+fn push_digits(scratch: &mut Scratch, number: u64)
+    requires { length scratch.old.line + length (decimal number) ≤ scratch.old.room }
+    ensures { Pushes scratch.old scratch.new (decimal number) }
+{
+    if number < 10 {
+        scratch.push(b'0' + number as u8);
+        return;
+    }
+    push_digits(scratch, number / 10);
+    scratch.push(b'0' + (number % 10) as u8);
+}
 
 /// Pushes a number.
 fn push_bare(scratch: &mut Scratch, number: i64)
@@ -15,8 +28,13 @@ fn push_bare(scratch: &mut Scratch, number: i64)
     ensures pushes { Pushes scratch.old scratch.new (signed_decimal number) }
     ensures short { length scratch.new.line ≤ length scratch.old.line + 20 }
 {
-    let mut buffer = Buffer::new();
-    scratch.push_all(buffer.format(number).as_bytes());
+    let digits = number.unsigned_abs();
+    if number < 0 {
+        scratch.push(b'-');
+        push_digits(scratch, digits);
+        return;
+    }
+    push_digits(scratch, digits);
 }
 
 /// Pushes a space and a number.
@@ -69,10 +87,9 @@ fn push_letter(scratch: &mut Scratch, step: usize)
     ensures pushes { Pushes scratch.old scratch.new (32 ∷ decimal (slice_index scratch.old.letters step + 1)) }
     ensures short { length scratch.new.line ≤ length scratch.old.line + 6 }
 {
-    let letter = scratch.letter(step) as u32 + 1;
+    let letter = scratch.letter(step) as u64 + 1;
     scratch.push(b' ');
-    let mut buffer = Buffer::new();
-    scratch.push_all(buffer.format(letter).as_bytes());
+    push_digits(scratch, letter);
 }
 
 /// Begins a line with a word.
@@ -92,8 +109,7 @@ pub fn set_natural(scratch: &mut Scratch, word: &[u8], number: usize)
 {
     start(scratch, word);
     scratch.push(b' ');
-    let mut buffer = Buffer::new();
-    scratch.push_all(buffer.format(number).as_bytes());
+    push_digits(scratch, number as u64);
     scratch.push(b'\n');
 }
 
