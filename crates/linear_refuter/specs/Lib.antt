@@ -3,4 +3,5 @@ pub mod Sum
 pub mod Refutation
 pub mod Answer
 pub mod TightPart
+pub mod SumEnds
 pub mod inside

@@ -1,8 +1,10 @@
-ghost use Rattle.std.specs.Prelude.{◌≡◌, ◌≤◌, ◌+ℤ◌, ◌*ℤ◌, ◌≤ℤ◌, ℤ, List, length, unsigned_abs, IfSome, IsTrue};
+ghost use Rattle.std.specs.Prelude.{◌≡◌, ◌≤◌, ◌*ℤ◌, ℤ, List, length, unsigned_abs, IfSome, IsTrue};
 ghost use Rattle.lin_form.specs.Atom.{IsAsSaid, atom_truth, AreAsSaid};
+ghost use Rattle.lin_form.specs.Form.{sum_of_products};
+ghost use Rattle.lin_form.specs.Range.{IsRange};
 ghost use Rattle.linear_refuter.specs.Answer.{HasTruth};
-ghost use Rattle.linear_refuter.specs.inside.Ends.{AreEndsOn, AreProductEnds};
-ghost use Rattle.lin_form.specs.Range.{IsInRanges, IsRange};
+ghost use Rattle.linear_refuter.specs.SumEnds.{AreSumEnds, IsBetween};
+ghost use Rattle.linear_refuter.specs.inside.Ends.{AreBoxEnds, AreProductEnds};
 
 use crate::Part;
 use lin_form::{Atom, Literal, Vector};
@@ -16,14 +18,56 @@ pub fn implied(literals: &[Literal], part: &Part, atom: &Atom) -> Option<bool>
     if let Some(truth) = implied_by_one(literals, atom) {
         return Some(truth);
     }
-    let (least, greatest) = ends(part, atom);
-    if least >= 0 {
+    told(atom, box_ends(part, atom))
+}
+
+/// The truth that an atom has where the sum with its coefficients lies between these ends, if they tell it.
+pub fn told(atom: &Atom, ends: (i64, i64)) -> Option<bool>
+    ensures { IfSome result (λ t. (x : List ℤ) → IsBetween ends (sum_of_products atom.now.coefficients x)
+        → atom_truth atom.now x ≡ t) }
+{
+    let limit = -atom.constant;
+    if limit <= ends.0 {
         return Some(true);
     }
-    if greatest < 0 {
+    if ends.1 < limit {
         return Some(false);
     }
     None
+}
+
+/// Numbers between which the sum with an atom's coefficients lies on each vector of the part on which every literal is
+/// as it says: the ranges and the literals with the same coefficients tell them. It takes no memory.
+pub fn sum_ends(literals: &[Literal], part: &Part, atom: &Atom) -> (i64, i64)
+    requires { length atom.now.coefficients ≡ length part.now }
+    ensures { AreSumEnds literals.now part.now atom.now.coefficients result }
+{
+    let mut ends = box_ends(part, atom);
+    for index in 0..literals.len() {
+        ends = nearer(ends, &literals[index], atom);
+    }
+    ends
+}
+
+/// The same ends, or nearer ones where the literal has the atom's coefficients.
+fn nearer(ends: (i64, i64), literal: &Literal, atom: &Atom) -> (i64, i64)
+    ensures { (x : List ℤ) → IsAsSaid literal.now x → IsBetween ends (sum_of_products atom.now.coefficients x)
+        → IsBetween result (sum_of_products atom.now.coefficients x) }
+{
+    if !are_same(&literal.atom.coefficients, &atom.coefficients) {
+        return ends;
+    }
+    let limit = -literal.atom.constant;
+    if literal.holds {
+        if ends.0 < limit {
+            return (limit, ends.1);
+        }
+        return ends;
+    }
+    if limit <= ends.1 {
+        return (ends.0, limit - 1);
+    }
+    ends
 }
 
 /// The truth of an atom that one of the literals tells.
@@ -62,15 +106,17 @@ fn are_same(one: &Vector, other: &Vector) -> bool
     one == other
 }
 
-/// A number that no value of the atom's form on the part is below, and one that none is above.
-fn ends(part: &Part, atom: &Atom) -> (i64, i64)
+/// The least and the greatest value of the sum with an atom's coefficients on the part.
+pub(crate) fn box_ends(part: &Part, atom: &Atom) -> (i64, i64)
     requires { length atom.now.coefficients ≡ length part.now }
-    ensures { AreEndsOn part.now atom.now result }
+    ensures within { AreBoxEnds part.now atom.now.coefficients result }
+    ensures low { unsigned_abs result.0 ≤ 6000000000000 }
+    ensures high { unsigned_abs result.1 ≤ 6000000000000 }
 {
     let ranges = part.as_slice();
     let coefficients = atom.coefficients.as_slice();
-    let mut least = atom.constant;
-    let mut greatest = atom.constant;
+    let mut least = 0;
+    let mut greatest = 0;
     for index in 0..ranges.len() {
         let ends = products(coefficients[index], ranges[index]);
         least += ends.0;

@@ -22,7 +22,7 @@ mod tree;
 
 pub use check::check_tree;
 pub use decision::{decide, decide_within};
-pub use implication::implied;
+pub use implication::{implied, sum_ends, told};
 pub use law::refuted_literals_have_no_vector;
 pub use part::Part;
 pub use relaxation::Relaxation;

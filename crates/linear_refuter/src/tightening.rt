@@ -1,11 +1,12 @@
-ghost use Rattle.std.specs.Prelude.{◌≡◌, ◌<◌, length, MatchOption};
+ghost use Rattle.std.specs.Prelude.{◌≡◌, ◌≤◌, ◌<◌, ◌*ℤ◌, ◌<ℤ◌, length, unsigned_abs, MatchBool, MatchOption};
 ghost use Rattle.linear_refuter.specs.Sum.{IsShaped};
 ghost use Rattle.linear_refuter.specs.Answer.{HasNone};
 ghost use Rattle.linear_refuter.specs.TightPart.{IsTightened};
+ghost use Rattle.linear_refuter.specs.inside.Ends.{IsNarrowed, IsSlack};
 
-use crate::settle::once;
+use crate::implication::box_ends;
 use crate::sum::is_refuted_by;
-use crate::term::{coefficient, offset};
+use crate::term::coefficient;
 use crate::{Part, Weight};
 use lin_form::Literal;
 
@@ -48,36 +49,102 @@ fn tightened_once(literals: &[Literal], part: &Part) -> Option<Part>
 {
     let mut tight = part.copy();
     for index in 0..literals.len() {
-        let Some(next) = tightened_by(literals, &tight, index) else {
+        let slack = slack_of(&literals[index], &tight);
+        if slack < 0 {
             return None;
-        };
-        tight = next;
+        }
+        tight = narrowed(&literals[index], &tight, slack);
     }
     Some(tight)
 }
 
-/// The same, with one literal taken.
-fn tightened_by(literals: &[Literal], part: &Part, index: usize) -> Option<Part>
-    requires shaped { IsShaped literals.now part.now }
-    requires index { index < length literals.now }
-    ensures { MatchOption result (HasNone literals.now part.now) (λ p. IsTightened literals.now part.now p) }
+/// The greatest value of a literal's constraint on the part.
+fn slack_of(literal: &Literal, part: &Part) -> i64
+    requires { length literal.now.atom.coefficients ≡ length part.now }
+    ensures { IsSlack literal.now part.now result }
 {
-    let reach = reach_of(&literals[index], part);
-    if reach.widest <= reach.most {
-        return Some(part.copy());
+    let ends = box_ends(part, &literal.atom);
+    if literal.holds {
+        ends.1 + literal.atom.constant
+    } else {
+        -ends.0 - literal.atom.constant - 1
     }
-    let weights = [once(index)];
-    if reach.most < 0 {
-        if is_refuted_by(literals, part, &weights) {
-            return None;
-        }
-    }
+}
+
+/// The part without the numbers of its variables at which the literal's constraint is below 0 even where every other
+/// variable is at its best end: from the constraint's greatest value.
+fn narrowed(literal: &Literal, part: &Part, slack: i64) -> Part
+    requires width { length literal.now.atom.coefficients ≡ length part.now }
+    requires slack { IsSlack literal.now part.now slack }
+    ensures { IsNarrowed literal.now part.now result }
+{
     let mut tight = part.copy();
     for variable in 0..part.inputs() {
-        let cut = cut_by(&literals[index], part, variable, reach.most);
-        tight = trimmed(literals, tight, variable, cut.at, cut.from_below, &weights);
+        tight = narrowed_at(literal, tight, variable, slack);
     }
-    Some(tight)
+    tight
+}
+
+/// The same for one variable.
+fn narrowed_at(literal: &Literal, part: Part, variable: usize, slack: i64) -> Part
+    requires width { length literal.now.atom.coefficients ≡ length part }
+    requires variable { variable < length part }
+    requires slack { IsSlack literal.now part slack }
+    ensures { IsNarrowed literal.now part result }
+{
+    let factor = coefficient(literal, variable);
+    let range = part.range(variable);
+    let at = limit_of(factor, range, slack);
+    if !part.is_cut(variable, at) {
+        return part;
+    }
+    if factor > 0 {
+        if is_product_above(factor, range.1 - at, slack) {
+            return part.above(variable, at);
+        }
+        return part;
+    }
+    if is_product_above(-factor, at + 1 - range.0, slack) {
+        return part.below(variable, at);
+    }
+    part
+}
+
+/// Whether a product is above a number.
+fn is_product_above(factor: i64, other: i64, number: i64) -> bool
+    requires factor { unsigned_abs factor ≤ 1000000 }
+    requires other { unsigned_abs other ≤ 3000000 }
+    ensures { MatchBool result (number <ℤ (factor *ℤ other)) (Unit {0}) }
+{
+    if number < factor * other {
+        return true;
+    }
+    false
+}
+
+/// A cut of a range whose upper side, or lower side for a factor below 0, may be all that is left where the product
+/// lies no farther than the slack from its greatest value, or a number that is no cut. It is a guess.
+fn limit_of(factor: i64, range: (i64, i64), slack: i64) -> i64 {
+    let width = range.1.wrapping_sub(range.0);
+    if factor > 0 && factor.wrapping_mul(width) > slack {
+        return range
+            .1
+            .wrapping_sub(quotient(slack, factor))
+            .wrapping_sub(1);
+    }
+    let turned = factor.wrapping_neg();
+    if factor < 0 && turned.wrapping_mul(width) > slack {
+        return range.0.wrapping_add(quotient(slack, turned));
+    }
+    i64::MIN
+}
+
+/// A quotient rounded down, for a positive divisor.
+fn quotient(number: i64, divisor: i64) -> i64 {
+    if divisor <= 0 {
+        return 0;
+    }
+    number.div_euclid(divisor)
 }
 
 /// The part without what lies on one side of a cut, where the sum refutes that.
@@ -107,80 +174,4 @@ pub(crate) fn trimmed(
         return below;
     }
     part
-}
-
-/// A cut of one variable, and whether what lies below it may be cut off, and not what lies above it.
-#[derive(Drop)]
-struct Cut {
-    at: i64,
-    from_below: bool,
-}
-
-/// The greatest value of a literal's constraint on the part, and how far it falls at most along one variable.
-#[derive(Drop)]
-struct Reach {
-    most: i64,
-    widest: i64,
-}
-
-/// A guess.
-fn reach_of(literal: &Literal, part: &Part) -> Reach
-    requires { length literal.now.atom.coefficients ≡ length part.now }
-{
-    let mut most = offset(literal);
-    let mut widest = 0;
-    for (variable, range) in part.as_slice().iter().enumerate() {
-        let factor = coefficient(literal, variable);
-        let greatest = greatest_product(factor, *range);
-        most = most.wrapping_add(greatest);
-        let least = greatest_product(factor, (range.1, range.0));
-        widest = widest.max(greatest.wrapping_sub(least));
-    }
-    Reach { most, widest }
-}
-
-fn greatest_product(factor: i64, range: (i64, i64)) -> i64 {
-    let end = if factor < 0 { range.0 } else { range.1 };
-    factor.wrapping_mul(end)
-}
-
-/// A cut that a literal may give, or one that is none, from the greatest value of its constraint. It is a guess.
-fn cut_by(literal: &Literal, part: &Part, variable: usize, most: i64) -> Cut
-    requires width { length literal.now.atom.coefficients ≡ length part.now }
-    requires variable { variable < length part.now }
-{
-    let factor = coefficient(literal, variable);
-    let range = part.range(variable);
-    // The product is at least this.
-    let need = greatest_product(factor, range).wrapping_sub(most);
-    if factor > 0 {
-        let least = floored(need.wrapping_neg(), factor).wrapping_neg();
-        if least > range.0 {
-            return Cut {
-                at: least.wrapping_sub(1),
-                from_below: true,
-            };
-        }
-    }
-    if factor < 0 {
-        let greatest = floored(need.wrapping_neg(), factor.wrapping_neg());
-        if greatest < range.1 {
-            return Cut {
-                at: greatest,
-                from_below: false,
-            };
-        }
-    }
-    Cut {
-        at: i64::MIN,
-        from_below: true,
-    }
-}
-
-/// A quotient rounded down, for a positive divisor.
-fn floored(number: i64, divisor: i64) -> i64 {
-    if divisor <= 0 {
-        return 0;
-    }
-    number.div_euclid(divisor)
 }
