@@ -7,7 +7,7 @@ use Rattle.command_stages.specs.Stage.{Stage, Printed, Made}
 use Rattle.command_stages.specs.Finish.{Finishes}
 use Rattle.command_stages.specs.Serve.{Answer, Run, IsRun, Whole}
 use Rattle.command_stages.proofs.Serving.{run_whole}
-use Rattle.classtest.specs.Ends.{Answers, AnswersCommand}
+use Rattle.command_answers.specs.Ends.{Answers, AnswersCommand}
 
 pub as_command : {o : Option Command} {run : Run} {r : Result Bool Stop} → command_of run.words ≡ o → IsRun (AnswersCommand o) (IsCommand run.words) run r → IsRun Answers (IsCommand run.words) run r
 as_command {o} {run} {r} e h =

@@ -9,8 +9,8 @@ use Rattle.command_stages.specs.declared.stop.Stop.TheVariants.{NoCommand, Refus
 use Rattle.command_stages.specs.Report.{status_of, status_of_refusal, status_of_stop}
 use Rattle.command_stages.specs.Serve.{Run, IsRun}
 use Rattle.command_stages.proofs.Serving.{no_zero}
-use Rattle.classtest.specs.Ends.{Answers}
-use Rattle.classtest.specs.Means.{PutsMeaning}
+use Rattle.command_answers.specs.Ends.{Answers}
+use Rattle.command_meaning.specs.Means.{PutsMeaning}
 
 -- what the text of a command shows, where it is put whole
 abbrev pub TextsShow : Type 0

@@ -1,9 +1,2 @@
-pub mod Printing
-pub mod One
 pub mod Arms
-pub mod Running
-pub mod Replaying
-pub mod Seen
-pub mod Meaning
-pub mod Piping
 pub mod Ending

@@ -4,7 +4,7 @@ use Rattle.command_words.specs.Command.{command_of}
 use Rattle.command_words.specs.declared.command.Command.TheVariants.{Play, Classes, Suite, Run, Json, Replay}
 use Rattle.verdict_report.specs.Json.{json_text}
 use Rattle.judge_stages.specs.Verdicts.{verdict_lines}
-use Rattle.classtest.specs.Ends.{PlayEnds, ClassesEnds, SuiteEnds, RunEnds, ReplayEnds}
+use Rattle.command_answers.specs.Ends.{PlayEnds, ClassesEnds, SuiteEnds, RunEnds, ReplayEnds}
 use Rattle.classtest.proofs.Arms.{as_command, whole}
 use Rattle.classtest.proofs.top.serve.Goals as goal
 

@@ -1,5 +1,0 @@
-use Rattle.classtest.proofs.Meaning.{meant}
-use Rattle.classtest.proofs.laws.texts_show.Goals as goal
-
-pub returns : goal.returns
-returns c = meant c.members_act_alike.ensures

@@ -1,6 +1,0 @@
-pub mod Play
-pub mod Ends
-pub mod Inputs
-pub mod Runs
-pub mod Replays
-pub mod Means

@@ -1,0 +1,4 @@
+pub mod Printing
+pub mod One
+pub mod Seen
+pub mod Piping

@@ -1,0 +1,3 @@
+pub mod Running
+pub mod Replaying
+pub mod Meaning

@@ -1,0 +1,4 @@
+pub mod Inputs
+pub mod Runs
+pub mod Replays
+pub mod Means
