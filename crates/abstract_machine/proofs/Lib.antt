@@ -4,3 +4,5 @@ pub mod Searching
 pub mod Making
 pub mod Abstracting
 pub mod Lifted
+pub mod Counting
+pub mod Branching

@@ -16,6 +16,12 @@ pub record AreAllReached {S : Type 0} (s : VectorSet) (m : Meaning S) (states : 
   pub are_reached : AreReached s m states
   pub each : (t : S) → LeadsTo s m t → Contains states t
 
+-- exactly n states are reached
+pub record ReachesExactly {S : Type 0} (n : ℕ) (s : VectorSet) (m : Meaning S) : Type 0 where
+  pub states : List S
+  pub are_all : AreAllReached s m states
+  pub number : length states ≡ n
+
 -- more than n states are reached
 pub record ReachesMore {S : Type 0} (n : ℕ) (s : VectorSet) (m : Meaning S) : Type 0 where
   pub states : List S

@@ -1,2 +1,3 @@
 -- What functions of this crate promise one another.
 pub mod Exploring
+pub mod Branches

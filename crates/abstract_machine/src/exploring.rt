@@ -9,7 +9,9 @@ ghost use Rattle.abstract_machine.specs.Reached.{ReachesMore};
 ghost use Rattle.abstract_machine.specs.inside.Exploring.{IsExploring};
 
 use crate::ExploreError;
+use crate::branches::Branches;
 use crate::numbering::{Recent, number_of};
+use crate::stepping::{Lately, step_numbers};
 use class_split::{Class, Partition};
 use fsm_core::{Fsm, Rows};
 use indexmap::IndexSet;
@@ -46,8 +48,17 @@ pub fn explore<P: Plan>(
     let mut rows = Rows::with_capacity(alloc, classes.len())?;
     let _start = number_of(&mut states, &plan.begin(), &mut Recent::new(0))?;
     let mut at = 0;
+    let mut branches = Branches::new(alloc);
     while at < states.len() {
-        expand(plan, classes, at, &mut states, &mut replies, &mut rows)?;
+        expand(
+            plan,
+            classes,
+            at,
+            &mut states,
+            &mut replies,
+            &mut rows,
+            &mut branches,
+        )?;
         at += 1;
     }
     let configurations = states.len();
@@ -59,7 +70,8 @@ pub fn explore<P: Plan>(
     })
 }
 
-/// Makes the rows of the state at a place, and enters the states and replies to which the letters lead.
+/// Makes the rows of the state at a place, and enters the states and replies to which the letters lead. A step is made once
+/// for each of the branches that the plan tells.
 fn expand<P: Plan>(
     plan: &P,
     classes: &[Class],
@@ -67,6 +79,7 @@ fn expand<P: Plan>(
     states: &mut IndexSet<P::State>,
     replies: &mut IndexSet<Reply>,
     rows: &mut Rows,
+    branches: &mut Branches,
 ) -> Result<(), ExploreError>
     requires vectors { All (λ (c : ClassValue). IsInInputRanges (P.plan plan.now).signature.inputs c.witness) classes.now }
     requires at { at < length states.old.keys }
@@ -78,16 +91,22 @@ fn expand<P: Plan>(
         → ReachesMore 1024 (Members (map (λ (c : ClassValue). c.witness) classes.now)) (P.plan plan.now)) }
 {
     let state = states.as_slice()[at];
-    let mut recent_states = Recent::new(at);
-    let mut recent_replies = Recent::new(0);
+    let mut lately = Lately {
+        states: Recent::new(at),
+        replies: Recent::new(0),
+    };
+    branches.clear();
     for class in classes {
-        let step = plan.advance(&state, &class.witness);
-        let next = number_of(states, &step.state, &mut recent_states)?;
-        if next >= 1024 {
-            return Err(ExploreError::TooManyConfigurations);
-        }
-        let reply = number_of(replies, &step.reply, &mut recent_replies)?;
-        rows.push(next, reply)?;
+        let step = step_numbers(
+            plan,
+            &state,
+            &class.witness,
+            states,
+            replies,
+            branches,
+            &mut lately,
+        )?;
+        rows.push(step.0, step.1)?;
     }
     Ok(())
 }

@@ -2,10 +2,12 @@
 //! witnesses.
 #![tactic(auto)]
 
+mod branches;
 mod error;
 mod exploring;
 mod laws;
 mod numbering;
+mod stepping;
 
 pub use error::ExploreError;
 pub use exploring::{Explored, explore};

@@ -1,8 +1,13 @@
-use Rattle.std.proofs.Common.{[], ◌∷◌, map, sym, ap, ◌∙◌, arith}
+use Rattle.std.proofs.Common.{◌≡◌, List, [], ◌∷◌, map, sym, ap, subst, ◌∙◌, arith}
 use Rattle.std.specs.Cmp.Lexicographic.{pointwise}
 use Rattle.std.specs.Ordering.{int_eq}
 use Rattle.std.proofs.lemmas.Cmp.{int_eq_equiv, lists_equiv}
 use Rattle.input_classes.specs.declared.class.Class.{Class}
+use Rattle.input_classes.specs.Partition.{witnesses}
+use Rattle.input_classes.specs.VectorSet.{Members}
+use Rattle.abstract_machine.specs.Reached.{ReachesMore}
+use Rattle.abstract_machine.specs.declared.error.ExploreError.{ExploreError}
+use Rattle.abstract_machine.proofs.Branching.{passed_up}
 use Rattle.abstract_machine.proofs.Keys.{first_key}
 use Rattle.abstract_machine.proofs.Searching.{exploring_start}
 use Rattle.abstract_machine.proofs.Making.{different_from, made_all, made_explored, made_machine, made_states}
@@ -77,3 +82,12 @@ returns-clause-few g c =
     c.in_ok-replies.replies.items (c.in_ok-replies.ensures.items ∙ c.as_slice.ensures.keys)
     (different_from (pointwise int_eq) (lists_equiv int_eq_equiv) c.loop-at.replies.keys c.as_slice.ensures.unique)
     g.P.State.PartialEq.eq g.met.P.State.Eq.laws g.met.P.Plan.same c.len.ensures.unique
+
+pub returns-in_err-expand-clause-many : goal.returns-in_err-expand-clause-many
+returns-in_err-expand-clause-many g c =
+    let m = g.P.Plan.plan c.args.plan.now in
+    passed_up c.from_residual-in_err-expand.result c.in_err-expand.field-0.0
+    (λ e. e ≡ ExploreError.TooManyConfigurations → ReachesMore 1024 (Members (witnesses c.args.partition.now)) m)
+    c.from_residual-in_err-expand.ensures.1
+    (λ many. subst (λ (cs : List Class). ReachesMore 1024 (Members (map (λ (c : Class). c.witness) cs)) m)
+    c.classes-classes.ensures.value (c.in_err-expand.ensures.many many))
