@@ -10,6 +10,7 @@ use Rattle.input_classes.specs.declared.class.Class.{Class}
 use Rattle.lin_form.specs.declared.literal.Literal.{Literal}
 use Rattle.class_split.specs.Split.{IsEmptyBox}
 use Rattle.linear_refuter.specs.Sum.{IsShaped}
+use Rattle.linear_refuter.specs.SumEnds.{AreSumEnds}
 use Rattle.class_split.specs.inside.Region.{IsInRegion}
 use Rattle.class_split.specs.declared.region.Region.{Region}
 use Rattle.class_split.specs.declared.node.Node.{Node}
@@ -43,6 +44,15 @@ pub record IsSkipped (atoms : List Atom) (first : ℕ) (node : Node) (n : ℕ) (
   pub limit : n ≤ length atoms
   pub agree : (x : List ℤ) → IsInRegion node.region x → SameUpTo n atoms x node.vector
   pub truths : AreTruths n atoms node.vector pattern
+
+-- the sum of the n-th atom lies between these numbers on the region
+abbrev pub AreEndsAt : List Atom → ℕ → Region → ℤ × ℤ → Type 0
+AreEndsAt atoms n region ends =
+    (d : Atom) → AreSumEnds region.kept.items region.part (get_or atoms n d).coefficients ends
+
+-- the same for the atom before the n-th, where that is not before the first
+abbrev pub AreEndsBefore : List Atom → ℕ → ℕ → Region → ℤ × ℤ → Type 0
+AreEndsBefore atoms first n region ends = (k : ℕ) → first ≤ k → k + 1 ≡ n → AreEndsAt atoms k region ends
 
 -- the vectors of two regions are the same
 pub record AreSameRegions (one other : Region) : Type 0 where
