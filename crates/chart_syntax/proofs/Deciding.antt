@@ -1,25 +1,27 @@
 -- A text is read or refused in one way.
-use Rattle.std.proofs.Common.{◌≡◌, ℕ, List, [], ◌∷◌, map, Option, Some, None, refl, sym, ◌∙◌, ap, subst}
-use Rattle.std.specs.Prelude.{Result, Ok, Err}
+use Rattle.std.proofs.Common.{◌≡◌, ℕ, List, [], ◌∷◌, map, Some, None, refl, sym, ◌∙◌, ap}
+use Rattle.std.specs.Prelude.{Ok}
 use Rattle.std.specs.List.{All}
+use Rattle.std.specs.Option.{ForSome}
 use Rattle.std.proofs.lemmas.List.Elements.{All-head, All-tail}
 use Rattle.lin_form.specs.declared.input.Input.{Input}
 use Rattle.lin_form.specs.declared.signature.Signature.{Signature}
 use Rattle.chart_model.specs.declared.chart.Chart.{Chart}
-use Rattle.text_lines.proofs.CallerLemmas.{decided, one_step, some_step}
-use Rattle.line_tokens.specs.declared.error.TokenError.{TokenError}
+use Rattle.text_lines.proofs.CallerLemmas.{decided}
 use Rattle.line_forms.specs.declared.statement.InputForm.{InputForm}
 use Rattle.line_forms.specs.declared.statement.OutputForm.{OutputForm}
-use Rattle.line_forms.specs.declared.statement.Sighted.{Sighted}
-use Rattle.line_forms.specs.Forms.{IsSighted, value_of}
-use Rattle.line_forms.specs.Limits.{IsSmallSight}
-use Rattle.line_forms.specs.Views.{IsView}
+use Rattle.line_forms.specs.declared.statement.Statement.{Statement}
+use Rattle.line_forms.specs.declared.parsed.ParsedLine.{ParsedLine}
+use Rattle.line_forms.specs.Forms.{IsStatement, value_of}
+use Rattle.line_forms.specs.Limits.{IsSmallStatement}
+use Rattle.line_forms.specs.Parsing.{AreParsed, IsParsed}
 use Rattle.chart_syntax.specs.declared.reader.Reader.{Reader}
-use Rattle.chart_syntax.specs.Checks.{start, end_check}
+use Rattle.chart_syntax.specs.Checks.{start, end_check, first_of, checks, next}
 use Rattle.chart_syntax.specs.inside.Promises.{HasRange, IsPartial}
-use Rattle.chart_syntax.specs.Reading.{bounds_of_input, bounds_of_form, memory_of, states_of, IsContent, TakesSight, IsDecided, view_check, next_view}
+use Rattle.chart_syntax.specs.Reading.{bounds_of_input, bounds_of_form, memory_of, states_of, IsContent, TakesLine, IsDecided}
+use Rattle.chart_syntax.proofs.CallerLemmas.{IsOneParse, IsSomeParse, one_taken, some_taken, taken_keeps}
 use Rattle.chart_syntax.proofs.Partial.{partial_start}
-use Rattle.chart_syntax.proofs.Placing.{partial_sight}
+use Rattle.chart_syntax.proofs.Placing.{partial_parsed_line}
 use Rattle.chart_syntax.proofs.Same.{same_chart}
 use Rattle.chart_syntax.proofs.Whole.{inputs_fit, outputs_fit, is_chart}
 
@@ -66,28 +68,16 @@ chart_exists s p e =
 
 -- what a line says is small
 abbrev pub IsSmallAll : Type 0
-IsSmallAll = (line : List ℕ) (sighted : Sighted) → IsView IsSighted line (Ok (Some sighted)) → IsSmallSight sighted
-
-partial_view : IsSmallAll → (s : Reader) (line : List ℕ) (view : Result (Option Sighted) TokenError) → IsPartial s → IsView IsSighted line view
-    → view_check s view ≡ None → IsPartial (next_view s view)
-partial_view small s line (Err error) p is e = p
-partial_view small s line (Ok None) p is e = p
-partial_view small s line (Ok (Some l)) p is e = partial_sight s l (is.first ∷ is.more) p is.says (small line l is) e
-
--- a line is one thing, and cannot be nothing
-abbrev pub IsOne : Type 0
-IsOne = (line : List ℕ) (a b : Result (Option Sighted) TokenError) → IsView IsSighted line a → IsView IsSighted line b → a ≡ b
-
-abbrev pub IsSome : Type 0
-IsSome = (line : List ℕ) → ((a : Result (Option Sighted) TokenError) → IsView IsSighted line a → ⊥) → ⊥
+IsSmallAll = (line : List ℕ) (parsed : ParsedLine Statement) → IsParsed (AreParsed IsStatement) line (Ok (Some parsed))
+    → ForSome parsed.form IsSmallStatement
 
 exists : (s : Reader) → IsPartial s → end_check s ≡ None → ((chart : Chart) → IsContent s chart → ⊥) → ⊥
 exists s p e none = let found = chart_exists s p e in none found.0 found.1
 
-pub chart_decided : IsOne → IsSome → IsSmallAll → (text : List ℕ) → IsDecided text
+pub chart_decided : IsOneParse IsStatement → IsSomeParse IsStatement → IsSmallAll → (text : List ℕ) → IsDecided text
 chart_decided one some small text =
-    decided TakesSight end_check IsContent IsPartial start text
-    (one_step (IsView IsSighted) (λ s view check. view_check s view ≡ check) next_view one (λ s view a b p q. sym p ∙ q))
-    (some_step (IsView IsSighted) (λ s view check. view_check s view ≡ check) next_view some (λ s view none. none (view_check s view) refl))
-    partial_start (λ s t line p taken. subst IsPartial (sym taken.3) (partial_view small s line taken.0 p taken.1 taken.2))
+    decided TakesLine end_check IsContent IsPartial start text
+    (one_taken IsStatement (first_of checks) next one) (some_taken IsStatement (first_of checks) next some)
+    partial_start (taken_keeps IsStatement (first_of checks) next IsPartial
+    (λ s line l p is e. partial_parsed_line s l (is.first ∷ is.more) p is.says (small line l is) e))
     same_content exists

@@ -14,16 +14,11 @@ use Rattle.lin_form.specs.Name.{reserved_words}
 use Rattle.line_forms.specs.declared.keyword.Keyword.{Keyword}
 use Rattle.chart_syntax.specs.declared.error.Refusal.{Refusal}
 use Rattle.line_forms.specs.Lexemes.{keywords, keyword_in}
-use Rattle.line_tokens.specs.Limits.{or_else}
 use Rattle.line_checks.specs.declared.scope.NameFault.{NameFault}
-use Rattle.line_checks.specs.Names.{is_same, is_declared, place_of, use_check}
+use Rattle.line_checks.specs.Names.{is_same, has_name, place_of, use_check}
 use Rattle.line_forms.specs.Limits.{IsFree}
 use Rattle.chart_syntax.specs.Scopes.{told}
 use Rattle.chart_syntax.specs.Checks.{number_of}
-
-pub or_none : (a b : Option Refusal) → or_else a b ≡ None → (a ≡ None) × (b ≡ None)
-or_none None b e = (refl, e)
-or_none (Some r) b e = absurd (cc)
 
 pub told_none : (o : Option NameFault) → told o ≡ None → o ≡ None
 told_none None e = refl
@@ -51,13 +46,13 @@ order_if g m false false e f h = grind (arith, nat_tests)
 pub ordered : (g m : ℕ) → (not (g == 0) && nat_lt m g) ≡ false → g ≤ m
 ordered g m h = order_if g m (g == 0) (nat_lt m g) refl refl h
 
-not_among : (name : List ℕ) (names : List (List ℕ)) → is_declared name names ≡ false → Contains names name → ⊥
-not_among name names e h = let t : is_declared name names ≡ true = list_any-from_Contains nat_list_eq_equiv name names h in cc
+not_among : (name : List ℕ) (names : List (List ℕ)) → has_name name names ≡ false → Contains names name → ⊥
+not_among name names e h = let t : has_name name names ≡ true = list_any-from_Contains nat_list_eq_equiv name names h in cc
 
-pub fresh_at : (name : List ℕ) (names : List (List ℕ)) → is_declared name names ≡ false → (k : ℕ) (d : List ℕ) → k < length names → get_or names k d ≢ name
+pub fresh_at : (name : List ℕ) (names : List (List ℕ)) → has_name name names ≡ false → (k : ℕ) (d : List ℕ) → k < length names → get_or names k d ≢ name
 fresh_at name names e k d less same = not_among name names e (k, less, get_or_default names k name d less ∙ same)
 
-pub different_push : (names : List (List ℕ)) (name : List ℕ) → AllPairs (λ a b. a ≢ b) names → is_declared name names ≡ false
+pub different_push : (names : List (List ℕ)) (name : List ℕ) → AllPairs (λ a b. a ≢ b) names → has_name name names ≡ false
     → AllPairs (λ a b. a ≢ b) (names ++ name ∷ [])
 different_push names name pairs e = all_pairs_push (λ a b. a ≢ b) names name pairs (fresh_at name names e)
 

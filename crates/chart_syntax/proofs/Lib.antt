@@ -1,3 +1,4 @@
+pub mod CallerLemmas
 pub mod Actions
 pub mod Fresh
 pub mod Moderate

@@ -21,7 +21,8 @@ use Rattle.chart_syntax.specs.declared.reader.Reader.{Reader}
 use Rattle.chart_syntax.specs.Scopes.{input_names, output_names, memory_names, guard_scope, assumption_scope, action_scope, assumption_of, told}
 use Rattle.chart_syntax.specs.Checks.{action_of, actions_of, place_in, place_of_name, place_check, action_check, actions_check, is_zero}
 use Rattle.chart_syntax.specs.inside.Promises.{HasFew, AreActions}
-use Rattle.chart_syntax.proofs.Fresh.{or_none, told_none}
+use Rattle.chart_syntax.proofs.CallerLemmas.{or_none}
+use Rattle.chart_syntax.proofs.Fresh.{told_none}
 
 -- the number of a name that is found is below that of all names
 pub place_below : (name : List ℕ) (names : List (List ℕ)) (i : ℕ) → place_of name names ≡ Some i → i < length names
@@ -47,7 +48,7 @@ pub good_action : (s : Reader) (a : ActionForm) → HasFew s → IsSmallAction a
     → IsAction (length s.inputs) (length s.memories) (length s.outputs) (action_of s a)
 good_action s a few small passes =
     let h = or_none (place_check s a.name) (told (sum_check (action_scope s) a.sum)) passes in
-    let misused = named.is_declared a.name (input_names s) in
+    let misused = named.has_name a.name (input_names s) in
     let width = length s.inputs in
     record {
       place = placed (place_of a.name (memory_names s)) (place_of a.name (output_names s)) (length s.memories) (length s.outputs)

@@ -1,9 +1,9 @@
 -- What was declared keeps its promises with each line that passes its checks.
 use Rattle.std.proofs.Common.{◌≡◌, ◌≢◌, ℕ, ◌+◌, ◌*◌, ◌<◌, ◌≤◌, Bool, true, false, ◌||◌, ◌&&◌, not, List, [], ◌∷◌, ◌++◌, length, Option, Some}
 use Rattle.std.proofs.Common.{None, refl, sym, ◌∙◌, ap, subst, arith, length-append}
-use Rattle.std.specs.Prelude.{nat_lt, nat_le, int_lt, unsigned_abs, AllPairs, slice_get, option_map, option_and_then, unwrap_or}
+use Rattle.std.specs.Prelude.{nat_lt, nat_le, int_lt, unsigned_abs, AllPairs, slice_get, option_map, option_and_then, slice_set, unwrap_or}
 use Rattle.std.specs.List.{All, list_any}
-use Rattle.std.specs.Option.{ForSome, option_map_or}
+use Rattle.std.specs.Option.{ForSome, option_map_or, option_or}
 use Rattle.std.proofs.lemmas.List.{map-append, length-map, length-set}
 use Rattle.std.proofs.lemmas.List.Elements.{All-nil, All-push}
 use Rattle.lin_form.specs.declared.form.Relation.TheVariants as relation
@@ -20,22 +20,24 @@ use Rattle.line_forms.specs.Trees as written
 use Rattle.line_forms.specs.Forms.{value_of}
 use Rattle.line_forms.specs.Limits.{IsFree, IsSmallGuard, IsSmallStatement}
 use Rattle.chart_model.specs.Chart.{IsAssumption, IsGuard}
+use Rattle.chart_model.specs.declared.action.Action.{Action}
+use Rattle.chart_model.specs.declared.transition.Transition.{Transition}
 use Rattle.chart_syntax.specs.declared.reader.DeclaredState.{DeclaredState}
 use Rattle.chart_syntax.specs.declared.reader.Reader.{Reader}
 use Rattle.chart_syntax.specs.declared.error.Kind.TheVariants as kind
 use Rattle.chart_syntax.specs.declared.error.Which.TheVariants as which
 use Rattle.chart_syntax.specs.declared.error.Refusal.TheVariants.{Fault, Limit}
-use Rattle.line_tokens.specs.Limits.{or_else}
-use Rattle.line_checks.specs.Names.{is_declared, place_of, use_check}
+use Rattle.line_checks.specs.Names.{has_name, place_of, use_check}
 use Rattle.line_checks.specs.Guards.{guard_of}
 use Rattle.chart_syntax.specs.Scopes.{input_names, output_names, guard_scope, assumption_of}
 use Rattle.chart_syntax.specs.Checks.{start, state_names, state_check, some_state_check, comparisons_check, names_check, range_check}
 use Rattle.chart_syntax.specs.Checks.{start_check, count_check, limit_check, double_check, when_check, actions_check, actions_of}
 use Rattle.chart_syntax.specs.Checks.{target_check, found_target_check, is_parent, is_child_of, is_outside, is_constant, is_bounded, memory_size}
 use Rattle.chart_syntax.specs.Checks.{parent_number, depth_under, number_of, declared_state, transition_of, next_statement}
-use Rattle.chart_syntax.specs.inside.Promises.{HasRange, HasSmallValue, HasMemory, HasFew, IsMove, IsPartial}
+use Rattle.chart_syntax.specs.inside.Promises.{HasRange, HasSmallValue, HasMemory, HasFew, AreLines, AreMoves, IsMove, IsPartial}
 use Rattle.chart_syntax.specs.inside.Promises.{variable_names}
-use Rattle.chart_syntax.proofs.Fresh.{or_none, told_none, if_none, or_false, below, ordered_range, different_push, number_within}
+use Rattle.chart_syntax.proofs.CallerLemmas.{or_none}
+use Rattle.chart_syntax.proofs.Fresh.{told_none, if_none, or_false, below, ordered_range, different_push, number_within}
 use Rattle.chart_syntax.proofs.Moderate.{place_below, good_guard, good_actions, assumption_form, not_constant}
 use Rattle.chart_syntax.proofs.Trees.{states_push, found_at}
 use Rattle.chart_syntax.proofs.Pushing.{one_more, limit_none, small_value, new_name, no_lines, no_moves, push_names, push_inputs, push_outputs}
@@ -189,7 +191,7 @@ partial_memory s f p early small names range count =
     (int_lt (value_of f.hi) (value_of f.value)) outside in
     let b = or_false (int_lt (value_of f.hi) (value_of f.lo)) (int_lt (value_of f.value) (value_of f.lo)) a.0 in
     let x = or_none (limit_check (nat_le 4 (length s.memories)) which.Memories)
-    (or_else (limit_check (not (is_bounded f)) which.Bound) (limit_check (nat_lt 256 (s.product * memory_size f)) which.Product)) count in
+    (option_or (limit_check (not (is_bounded f)) which.Bound) (limit_check (nat_lt 256 (s.product * memory_size f)) which.Product)) count in
     let y = or_none (limit_check (not (is_bounded f)) which.Bound) (limit_check (nat_lt 256 (s.product * memory_size f)) which.Product) x.1 in
     let z = both_true (nat_le (unsigned_abs (value_of f.lo)) 1000) (nat_le (unsigned_abs (value_of f.hi)) 1000)
     (not_true (is_bounded f) (limit_none (not (is_bounded f)) which.Bound y.0)) in
@@ -254,8 +256,8 @@ partial_state s f p early small names begins count =
     let quiet = p.actions_last early in
     let few = p.few in
     let same = map-append (λ (state : DeclaredState). state.name) s.states (x ∷ []) in
-    let a = or_none (double_check (is_declared f.name (state_names s))) (some_state_check s f.parent) names in
-    let new = if_none (is_declared f.name (state_names s)) (Fault kind.Double) a.0 in
+    let a = or_none (double_check (has_name f.name (state_names s))) (some_state_check s f.parent) names in
+    let new = if_none (has_name f.name (state_names s)) (Fault kind.Double) a.0 in
     let b = or_none (limit_check (nat_le 64 (length s.states)) which.States)
     (limit_check (nat_lt 8 (depth_under s (parent_number s f.parent))) which.Depth) count in
     let below_all = parent_below s f.parent in
@@ -305,81 +307,59 @@ partial_state s f p early small names begins count =
       actions_last = λ h. record { entries = entries; exits = exits; transitions = quiet.transitions };
     }
 
+-- with other actions on entry and exit and other transitions, as many as there may be and each of them right
+partial_last : (s : Reader) (entries exits : List (Option (List Action))) (transitions : List Transition) → IsPartial s
+    → length entries ≡ length s.states → length exits ≡ length s.states → length transitions ≤ 256 → AreLines s entries → AreLines s exits
+    → AreMoves s transitions → IsPartial (record s { group = 6; entries = entries; exits = exits; transitions = transitions })
+partial_last s entries exits transitions p all_entries all_exits few_transitions right right_exits moves = let few = p.few in record {
+  few = record {
+    version = few.version;
+    inputs = few.inputs;
+    assumed = few.assumed;
+    outputs = few.outputs;
+    memories = few.memories;
+    product = few.product;
+    states = few.states;
+    transitions = few_transitions;
+    entries = all_entries;
+    exits = all_exits;
+  };
+  ranges = p.ranges;
+  assumptions = p.assumptions;
+  values = p.values;
+  memories = p.memories;
+  product = p.product;
+  free = p.free;
+  different = p.different;
+  free_states = p.free_states;
+  different_states = p.different_states;
+  tree = p.tree;
+  entries = right;
+  exits = right_exits;
+  moves = moves;
+  inputs_first = λ h. absurd (omega (arith, h));
+  outputs_later = λ h. absurd (omega (arith, h));
+  memories_later = λ h. absurd (omega (arith, h));
+  actions_last = λ h. absurd (omega (arith, h));
+}
+
 partial_entry : (s : Reader) (f : ActionsForm) → IsPartial s → IsSmallStatement (says.Entry f) → names_check s (says.Entry f) ≡ None
     → IsPartial (next_statement s (says.Entry f))
 partial_entry s f p small names =
     let k = number_of f.state (state_names s) in
-    let few = p.few in
     let a = or_none (state_check s f.state) (actions_check s f.actions) names in
-    record {
-      few = record {
-        version = few.version;
-        inputs = few.inputs;
-        assumed = few.assumed;
-        outputs = few.outputs;
-        memories = few.memories;
-        product = few.product;
-        states = few.states;
-        transitions = few.transitions;
-        entries = length-set s.entries k (Some (actions_of s f.actions)) ∙ few.entries;
-        exits = few.exits;
-      };
-      ranges = p.ranges;
-      assumptions = p.assumptions;
-      values = p.values;
-      memories = p.memories;
-      product = p.product;
-      free = p.free;
-      different = p.different;
-      free_states = p.free_states;
-      different_states = p.different_states;
-      tree = p.tree;
-      entries = new_lines s s.entries k f few p.entries small a.1;
-      exits = p.exits;
-      moves = p.moves;
-      inputs_first = λ h. absurd (omega (arith, h));
-      outputs_later = λ h. absurd (omega (arith, h));
-      memories_later = λ h. absurd (omega (arith, h));
-      actions_last = λ h. absurd (omega (arith, h));
-    }
+    partial_last s (slice_set s.entries k (Some (actions_of s f.actions))) s.exits s.transitions p
+    (length-set s.entries k (Some (actions_of s f.actions)) ∙ p.few.entries) p.few.exits p.few.transitions
+    (new_lines s s.entries k f p.few p.entries small a.1) p.exits p.moves
 
 partial_exit : (s : Reader) (f : ActionsForm) → IsPartial s → IsSmallStatement (says.Exit f) → names_check s (says.Exit f) ≡ None
     → IsPartial (next_statement s (says.Exit f))
 partial_exit s f p small names =
     let k = number_of f.state (state_names s) in
-    let few = p.few in
     let a = or_none (state_check s f.state) (actions_check s f.actions) names in
-    record {
-      few = record {
-        version = few.version;
-        inputs = few.inputs;
-        assumed = few.assumed;
-        outputs = few.outputs;
-        memories = few.memories;
-        product = few.product;
-        states = few.states;
-        transitions = few.transitions;
-        entries = few.entries;
-        exits = length-set s.exits k (Some (actions_of s f.actions)) ∙ few.exits;
-      };
-      ranges = p.ranges;
-      assumptions = p.assumptions;
-      values = p.values;
-      memories = p.memories;
-      product = p.product;
-      free = p.free;
-      different = p.different;
-      free_states = p.free_states;
-      different_states = p.different_states;
-      tree = p.tree;
-      entries = p.entries;
-      exits = new_lines s s.exits k f few p.exits small a.1;
-      moves = p.moves;
-      inputs_first = λ h. absurd (omega (arith, h));
-      outputs_later = λ h. absurd (omega (arith, h));
-      memories_later = λ h. absurd (omega (arith, h));
-      actions_last = λ h. absurd (omega (arith, h));
-    }
+    partial_last s s.entries (slice_set s.exits k (Some (actions_of s f.actions))) s.transitions p p.few.entries
+    (length-set s.exits k (Some (actions_of s f.actions)) ∙ p.few.exits) p.few.transitions p.entries
+    (new_lines s s.exits k f p.few p.exits small a.1) p.moves
 
 number_below : (s : Reader) (name : List ℕ) (misused : Bool) → use_check (place_of name (state_names s)) misused ≡ None
     → number_of name (state_names s) < length s.states
@@ -430,8 +410,8 @@ partial_on : (s : Reader) (f : OnForm) → IsPartial s → IsSmallStatement (say
     → IsPartial (next_statement s (says.On f))
 partial_on s f p small alone comparisons names count =
     let few = p.few in
-    let rest = or_else (actions_check s f.effect) (target_check s f.target f.history) in
-    let a = or_none (state_check s f.source) (or_else (when_check s f.guard) rest) names in
+    let rest = option_or (actions_check s f.effect) (target_check s f.target f.history) in
+    let a = or_none (state_check s f.source) (option_or (when_check s f.guard) rest) names in
     let b = or_none (when_check s f.guard) rest a.1 in
     let d = or_none (actions_check s f.effect) (target_check s f.target f.history) b.1 in
     let tests = if_none (nat_lt 64 (option_map_or written.tests_of f.guard 0)) (Limit which.Comparisons) comparisons in
@@ -442,38 +422,10 @@ partial_on s f p small alone comparisons names count =
       target = good_target s f.target f.history d.1;
       history = good_history s f.target f.history d.1 alone;
     } in
-    record {
-      few = record {
-        version = few.version;
-        inputs = few.inputs;
-        assumed = few.assumed;
-        outputs = few.outputs;
-        memories = few.memories;
-        product = few.product;
-        states = few.states;
-        transitions = one_more s.transitions (transition_of s f) 256
-            (below (length s.transitions) 256 (limit_none (nat_le 256 (length s.transitions)) which.Transitions count));
-        entries = few.entries;
-        exits = few.exits;
-      };
-      ranges = p.ranges;
-      assumptions = p.assumptions;
-      values = p.values;
-      memories = p.memories;
-      product = p.product;
-      free = p.free;
-      different = p.different;
-      free_states = p.free_states;
-      different_states = p.different_states;
-      tree = p.tree;
-      entries = p.entries;
-      exits = p.exits;
-      moves = All-push (IsMove (length s.inputs) (length s.memories) (length s.outputs) s.states) s.transitions (transition_of s f) p.moves move;
-      inputs_first = λ h. absurd (omega (arith, h));
-      outputs_later = λ h. absurd (omega (arith, h));
-      memories_later = λ h. absurd (omega (arith, h));
-      actions_last = λ h. absurd (omega (arith, h));
-    }
+    partial_last s s.entries s.exits (s.transitions ++ transition_of s f ∷ []) p few.entries few.exits
+    (one_more s.transitions (transition_of s f) 256 (below (length s.transitions) 256 (limit_none (nat_le 256 (length s.transitions)) which.Transitions count)))
+    p.entries p.exits
+    (All-push (IsMove (length s.inputs) (length s.memories) (length s.outputs) s.states) s.transitions (transition_of s f) p.moves move)
 
 partial_chart : (s : Reader) (n : ℕ) → IsPartial s → n ≤ 3 → IsPartial (next_statement s (says.Chart n))
 partial_chart s n p small =

@@ -1,5 +1,5 @@
 -- What is declared grows by one: its names, its products and its lines of actions.
-use Rattle.std.proofs.Common.{◌≡◌, ℕ, ◌+◌, ◌*◌, ◌<◌, ◌≤◌, Bool, true, false, ◌||◌, ◌&&◌, not, List, [], ◌∷◌, ◌++◌, length, map, Option, Some}
+use Rattle.std.proofs.Common.{◌≡◌, ℕ, ◌*◌, ◌<◌, ◌≤◌, Bool, true, false, ◌||◌, ◌&&◌, not, List, [], ◌∷◌, ◌++◌, length, map, Option, Some}
 use Rattle.std.proofs.Common.{None, refl, sym, ◌∙◌, ap, subst, arith, append_assoc, length-append, mul_assoc}
 use Rattle.std.specs.Prelude.{nat_lt, nat_le, unsigned_abs, slice_set}
 use Rattle.std.specs.List.{All}
@@ -21,7 +21,7 @@ use Rattle.chart_model.specs.declared.action.Action.{Action}
 use Rattle.chart_syntax.specs.declared.reader.Reader.{Reader}
 use Rattle.chart_syntax.specs.declared.error.Kind.TheVariants as kind
 use Rattle.chart_syntax.specs.declared.error.Refusal.TheVariants.{Fault, Limit}
-use Rattle.line_checks.specs.Names.{is_same, is_declared}
+use Rattle.line_checks.specs.Names.{is_same, has_name}
 use Rattle.chart_syntax.specs.Scopes.{input_names, output_names, memory_names}
 use Rattle.chart_syntax.specs.Checks.{is_variable}
 use Rattle.chart_syntax.specs.Checks.{limit_check, double_check, actions_check, actions_of}
@@ -42,10 +42,10 @@ small_value (Plain n) h = omega (arith, ints)
 small_value (Negated n) h = omega (arith, ints)
 
 -- a name that is no variable is none of their names
-pub new_name : (s : Reader) (name : List ℕ) → double_check (is_variable s name) ≡ None → is_declared name (variable_names s) ≡ false
+pub new_name : (s : Reader) (name : List ℕ) → double_check (is_variable s name) ≡ None → has_name name (variable_names s) ≡ false
 new_name s name h =
     list_any-append (is_same name) (input_names s ++ output_names s) (memory_names s)
-    ∙ ap (λ b. b || is_declared name (memory_names s)) (list_any-append (is_same name) (input_names s) (output_names s))
+    ∙ ap (λ b. b || has_name name (memory_names s)) (list_any-append (is_same name) (input_names s) (output_names s))
     ∙ if_none (is_variable s name) (Fault kind.Double) h
 
 pub no_lines : (s : Reader) (lines : List (Option (List Action))) → All (λ line. line ≡ None) lines → AreLines s lines

@@ -1,10 +1,10 @@
 -- The checks of a line of a chart in their order, what a line declares, and what is checked at the end.
-use Rattle.std.specs.Prelude.{◌≡◌, ℕ, ◌+◌, ◌*◌, ℤ, pos, ◌-ℤ◌, Bool, true, false, not, ◌&&◌, ◌||◌, if◌then◌else◌}
+use Rattle.std.specs.Prelude.{ℕ, ◌+◌, ◌*◌, ℤ, pos, ◌-ℤ◌, Bool, true, false, not, ◌&&◌, ◌||◌, if◌then◌else◌}
 use Rattle.std.specs.Prelude.{◌==◌, nat_lt, nat_le, int_lt, List, [], ◌∷◌, ◌++◌, length, map, unsigned_abs}
 use Rattle.std.specs.Prelude.{slice_get, slice_set, Option, Some, None, is_some, unwrap_or, option_map}
-use Rattle.std.specs.Prelude.{option_and_then, Result, Ok, Err}
+use Rattle.std.specs.Prelude.{option_and_then}
 use Rattle.std.specs.List.{list_any, list_all}
-use Rattle.std.specs.Option.{option_map_or}
+use Rattle.std.specs.Option.{option_map_or, option_or}
 use Rattle.std.specs.Ordering.{int_eq}
 use Rattle.lin_form.specs.declared.form.Comparison.{Comparison}
 use Rattle.line_tokens.specs.declared.error.TokenLimit.{TokenLimit}
@@ -19,7 +19,7 @@ use Rattle.line_forms.specs.declared.statement.StateForm.{StateForm}
 use Rattle.line_forms.specs.declared.statement.OnForm.{OnForm}
 use Rattle.line_forms.specs.declared.statement.Statement.{Statement}
 use Rattle.line_forms.specs.declared.statement.Statement.TheVariants as says
-use Rattle.line_forms.specs.declared.statement.Sighted.{Sighted}
+use Rattle.line_forms.specs.declared.parsed.ParsedLine.{ParsedLine}
 use Rattle.line_forms.specs.Trees as written
 use Rattle.line_forms.specs.Forms.{value_of}
 use Rattle.chart_model.specs.declared.action.Action.{Action}
@@ -40,8 +40,7 @@ use Rattle.text_lines.specs.declared.read.LineError.{LineError}
 use Rattle.text_lines.specs.declared.read.LineError.TheVariants as line_error
 use Rattle.chart_syntax.specs.declared.error.ChartError.{ChartError}
 use Rattle.chart_syntax.specs.declared.error.ChartError.TheVariants as chart_error
-use Rattle.line_tokens.specs.Limits.{or_else}
-use Rattle.line_checks.specs.Names.{is_declared, place_of, use_check}
+use Rattle.line_checks.specs.Names.{has_name, place_of, use_check}
 use Rattle.line_checks.specs.Sums.{sum_check, test_check, value_form_of}
 use Rattle.line_checks.specs.Guards.{guard_check, guard_of}
 use Rattle.chart_syntax.specs.Scopes.{input_names, output_names, memory_names, guard_scope, assumption_scope}
@@ -72,7 +71,7 @@ Check L = Reader → L → Option Refusal
 -- what the first check that meets a line refuses it for
 abbrev pub first_of : {L : Type 0} → List (Check L) → Reader → L → Option Refusal
 first_of [] s l = None
-first_of (check ∷ checks) s l = or_else (check s l) (first_of checks s l)
+first_of (check ∷ checks) s l = option_or (check s l) (first_of checks s l)
 
 abbrev pub state_names : Reader → List (List ℕ)
 state_names s = map (λ state. state.name) s.states
@@ -122,11 +121,11 @@ group_of version other = 0
 abbrev pub word_check : ℕ → Option Keyword → Option Refusal
 word_check version head = fault_check (not (version == 0) && group_of version head == 0) kind.NoSuchLine
 
-abbrev pub line_check : Check Sighted
-line_check s l = or_else (version_check s.version l.form) (word_check s.version l.head)
+abbrev pub first_word_check : Check (ParsedLine Statement)
+first_word_check s l = option_or (version_check s.version l.form) (word_check s.version l.head)
 
 -- check 6: a later line stands after no line of a later group
-abbrev pub order_check : Check Sighted
+abbrev pub order_check : Check (ParsedLine Statement)
 order_check s l = fault_check (not (s.version == 0) && nat_lt (group_of s.version l.head) s.group) kind.Misplaced
 
 -- check 7: the tokens derive from a form; the word `history` is one of version 3
@@ -135,7 +134,7 @@ is_formed version None = false
 is_formed version (Some (says.On f)) = not f.history || version == 3
 is_formed version (Some other) = true
 
-abbrev pub form_check : Check Sighted
+abbrev pub form_check : Check (ParsedLine Statement)
 form_check s l = fault_check (not (is_formed s.version l.form)) kind.Form
 
 -- check 8
@@ -151,8 +150,8 @@ abbrev pub double_check : Bool → Option Refusal
 double_check declared = fault_check declared kind.Double
 
 abbrev pub is_variable : Reader → List ℕ → Bool
-is_variable s name = is_declared name (input_names s) || is_declared name (output_names s)
-    || is_declared name (memory_names s)
+is_variable s name = has_name name (input_names s) || has_name name (output_names s)
+    || has_name name (memory_names s)
 
 abbrev pub state_check : Reader → List ℕ → Option Refusal
 state_check s name = told (use_check (place_of name (state_names s)) false)
@@ -172,14 +171,14 @@ abbrev pub place_of_name : Reader → List ℕ → Option Place
 place_of_name s name = place_in (place_of name (memory_names s)) (place_of name (output_names s))
 
 abbrev pub place_check : Reader → List ℕ → Option Refusal
-place_check s name = told (use_check (place_of_name s name) (is_declared name (input_names s)))
+place_check s name = told (use_check (place_of_name s name) (has_name name (input_names s)))
 
 abbrev pub action_check : Reader → ActionForm → Option Refusal
-action_check s a = or_else (place_check s a.name) (told (sum_check (action_scope s) a.sum))
+action_check s a = option_or (place_check s a.name) (told (sum_check (action_scope s) a.sum))
 
 abbrev pub actions_check : Reader → List ActionForm → Option Refusal
 actions_check s [] = None
-actions_check s (a ∷ more) = or_else (action_check s a) (actions_check s more)
+actions_check s (a ∷ more) = option_or (action_check s a) (actions_check s more)
 
 abbrev pub when_check : Reader → Option written.Tree → Option Refusal
 when_check s None = None
@@ -207,11 +206,11 @@ names_check s (says.Input f) = double_check (is_variable s f.name)
 names_check s (says.Assume t) = told (test_check (assumption_scope s) t)
 names_check s (says.Output f) = double_check (is_variable s f.name)
 names_check s (says.Memory f) = double_check (is_variable s f.name)
-names_check s (says.State f) = or_else (double_check (is_declared f.name (state_names s))) (some_state_check s f.parent)
-names_check s (says.Entry f) = or_else (state_check s f.state) (actions_check s f.actions)
-names_check s (says.Exit f) = or_else (state_check s f.state) (actions_check s f.actions)
-names_check s (says.On f) = or_else (state_check s f.source)
-    (or_else (when_check s f.guard) (or_else (actions_check s f.effect) (target_check s f.target f.history)))
+names_check s (says.State f) = option_or (double_check (has_name f.name (state_names s))) (some_state_check s f.parent)
+names_check s (says.Entry f) = option_or (state_check s f.state) (actions_check s f.actions)
+names_check s (says.Exit f) = option_or (state_check s f.state) (actions_check s f.actions)
+names_check s (says.On f) = option_or (state_check s f.source)
+    (option_or (when_check s f.guard) (option_or (actions_check s f.effect) (target_check s f.target f.history)))
 
 -- check 10: a range has a number, a memory's value lies in its range, and an assumption speaks of an input
 
@@ -280,10 +279,10 @@ count_check s (says.Chart n) = None
 count_check s (says.Input f) = limit_check (nat_le 6 (length s.inputs)) which.Inputs
 count_check s (says.Assume t) = limit_check (nat_le 16 (length s.assumed)) which.Assumptions
 count_check s (says.Output f) = limit_check (nat_le 8 (length s.outputs)) which.Outputs
-count_check s (says.Memory f) = or_else (limit_check (nat_le 4 (length s.memories)) which.Memories)
-    (or_else (limit_check (not (is_bounded f)) which.Bound)
+count_check s (says.Memory f) = option_or (limit_check (nat_le 4 (length s.memories)) which.Memories)
+    (option_or (limit_check (not (is_bounded f)) which.Bound)
     (limit_check (nat_lt 256 (s.product * memory_size f)) which.Product))
-count_check s (says.State f) = or_else (limit_check (nat_le 64 (length s.states)) which.States)
+count_check s (says.State f) = option_or (limit_check (nat_le 64 (length s.states)) which.States)
     (limit_check (nat_lt 8 (depth_under s (parent_number s f.parent))) which.Depth)
 count_check s (says.Entry f) = None
 count_check s (says.Exit f) = None
@@ -298,12 +297,12 @@ on_some check s None = None
 on_some check s (Some said) = check s said
 
 -- a check of what a line says, which is made where its tokens derive from a form
-abbrev pub on_form : Check Statement → Check Sighted
+abbrev pub on_form : Check Statement → Check (ParsedLine Statement)
 on_form check s l = on_some check s l.form
 
 -- all checks of a line with tokens, in their order
-abbrev pub checks : List (Check Sighted)
-checks = line_check ∷ order_check ∷ form_check ∷ on_form comparisons_check ∷ on_form names_check
+abbrev pub checks : List (Check (ParsedLine Statement))
+checks = first_word_check ∷ order_check ∷ form_check ∷ on_form comparisons_check ∷ on_form names_check
     ∷ on_form range_check ∷ on_form start_check ∷ on_form count_check ∷ []
 
 -- what a line declares
@@ -382,7 +381,7 @@ abbrev pub next_form : Reader → Option Statement → Reader
 next_form s None = s
 next_form s (Some said) = next_statement s said
 
-abbrev pub next : Reader → Sighted → Reader
+abbrev pub next : Reader → ParsedLine Statement → Reader
 next s l = next_form s l.form
 
 -- what is checked where the text ends

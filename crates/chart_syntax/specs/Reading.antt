@@ -1,5 +1,5 @@
 -- What a text reads as, where it is a chart, and the first line and the first check that refuses it, where it is none.
-use Rattle.std.specs.Prelude.{◌≡◌, ℕ, ◌+◌, ℤ, List, [], ◌∷◌, map, Option, Some, None, Result, Ok, Err, unwrap_or}
+use Rattle.std.specs.Prelude.{◌≡◌, ℕ, ℤ, List, [], ◌∷◌, map, Option, Some, None, Result, Ok, Err, unwrap_or}
 use Rattle.lin_form.specs.declared.input.Input.{Input}
 use Rattle.chart_model.specs.declared.action.Action.{Action}
 use Rattle.chart_model.specs.declared.chart.Chart.{Chart}
@@ -12,9 +12,10 @@ use Rattle.text_lines.specs.declared.read.LineError.TheVariants as line_error
 use Rattle.line_tokens.specs.Limits.{IsRefused}
 use Rattle.line_forms.specs.declared.statement.InputForm.{InputForm}
 use Rattle.line_forms.specs.declared.statement.MemoryForm.{MemoryForm}
-use Rattle.line_forms.specs.declared.statement.Sighted.{Sighted}
-use Rattle.line_forms.specs.Forms.{IsSighted, value_of}
-use Rattle.line_forms.specs.Views.{IsView}
+use Rattle.line_forms.specs.declared.lexeme.Lexeme.{Lexeme}
+use Rattle.line_forms.specs.declared.parsed.ParsedLine.{ParsedLine}
+use Rattle.line_forms.specs.Forms.{IsStatement, value_of}
+use Rattle.line_forms.specs.Parsing.{AreParsed, IsParsed}
 use Rattle.chart_syntax.specs.declared.reader.DeclaredState.{DeclaredState}
 use Rattle.chart_syntax.specs.declared.reader.Reader.{Reader}
 use Rattle.chart_syntax.specs.declared.error.Refusal.{Refusal}
@@ -27,18 +28,27 @@ abbrev pub refusal_in : LineError Refusal → Option Refusal
 refusal_in (line_error.Refused refusal) = Some refusal
 refusal_in line_error.Memory = None
 
--- what refuses a line that is seen as this, given what the lines before it declared; a blank line is refused for
--- its bytes alone
-abbrev pub view_check : Reader → Result (Option Sighted) TokenError → Option Refusal
-view_check s (Err error) = refusal_in (line_error_of error)
-view_check s (Ok None) = None
-view_check s (Ok (Some sighted)) = first_of checks s sighted
+-- what a line is parsed as: refused for its tokens, blank, or its first word and what it says
+abbrev pub LineOf : Type 0 → Type 0
+LineOf T = Result (Option (ParsedLine T)) TokenError
 
--- what is declared after the line; a blank line declares nothing
-abbrev pub next_view : Reader → Result (Option Sighted) TokenError → Reader
-next_view s (Err error) = s
-next_view s (Ok None) = s
-next_view s (Ok (Some sighted)) = next s sighted
+-- what refuses a line, by the check of a line that is not blank; a blank line is refused for its bytes alone
+abbrev pub parsed_check : {S T : Type 0} → (S → ParsedLine T → Option Refusal) → S → LineOf T → Option Refusal
+parsed_check check s (Err error) = refusal_in (line_error_of error)
+parsed_check check s (Ok None) = None
+parsed_check check s (Ok (Some parsed)) = check s parsed
+
+-- what is declared after a line; a blank line declares nothing
+abbrev pub parsed_next : {S T : Type 0} → (S → ParsedLine T → S) → S → LineOf T → S
+parsed_next next s (Err error) = s
+parsed_next next s (Ok None) = s
+parsed_next next s (Ok (Some parsed)) = next s parsed
+
+-- what a line leads to, or why it is refused, by the forms of its format, its check and what it declares
+abbrev pub TakesBy : {S T : Type 0} → (List Lexeme → T → Type 0) → (S → ParsedLine T → Option Refusal)
+    → (S → ParsedLine T → S) → S → List ℕ → Result S Refusal → Type 0
+TakesBy Is check next = lines.StepBy (IsParsed (AreParsed Is))
+    (λ s parsed refusal. parsed_check check s parsed ≡ refusal) (parsed_next next)
 
 abbrev pub actions_of_line : Option (List Action) → List Action
 actions_of_line line = unwrap_or line []
@@ -81,18 +91,18 @@ pub record IsContent (s : Reader) (chart : Chart) : Type 0 where
   pub states : chart.states ≡ states_of s.states s.entries s.exits
   pub transitions : chart.transitions ≡ s.transitions
 
--- what a line leads to, or why it is refused
-abbrev pub TakesSight : Reader → List ℕ → Result Reader Refusal → Type 0
-TakesSight = lines.StepBy (IsView IsSighted) (λ s view check. view_check s view ≡ check) next_view
+-- what a line of a chart leads to, or why it is refused
+abbrev pub TakesLine : Reader → List ℕ → Result Reader Refusal → Type 0
+TakesLine = TakesBy IsStatement (first_of checks) next
 
 -- the text is a chart, and this is the chart
 abbrev pub Reads : List ℕ → Chart → Type 0
-Reads text chart = lines.Reads TakesSight end_check IsContent start text chart
+Reads text chart = lines.Reads TakesLine end_check IsContent start text chart
 
 -- the text is no chart: of the line with this number, from 1, the first check that meets a line refuses it; what is
 -- missing at the end has the number after the last line's
 abbrev pub Refuses : List ℕ → ℕ → Refusal → Type 0
-Refuses text line refusal = lines.Refuses TakesSight end_check start text line refusal
+Refuses text line refusal = lines.Refuses TakesLine end_check start text line refusal
 
 -- the error tells why a text is refused, or that there was no memory
 abbrev pub IsRefusedBy : (ℕ → Refusal → Type 0) → ChartError → Type 0

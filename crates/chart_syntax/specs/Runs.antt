@@ -1,11 +1,11 @@
 -- A guard among the tokens of a line, which is line 1 of a text: what it is, and what refuses it.
-use Rattle.std.specs.Prelude.{◌≡◌, ℕ, ◌<◌, ◌≤◌, List, length, Option, Some, None}
+use Rattle.std.specs.Prelude.{◌≡◌, ℕ, ◌<◌, ◌≤◌, List, length, Some, None}
 use Rattle.lin_form.specs.declared.form.Comparison.{Comparison}
 use Rattle.lin_form.specs.declared.signature.Signature.{Signature}
 use Rattle.lin_form.specs.Trees.{Tree}
 use Rattle.line_tokens.specs.declared.token.Token.{Token}
 use Rattle.line_forms.specs.declared.lexeme.Lexeme.{Lexeme}
-use Rattle.line_forms.specs.Grammar.{Guard, IsGuard, guard_tree}
+use Rattle.line_forms.specs.Grammar.{Guard, IsGuardText, guard_tree}
 use Rattle.line_forms.specs.Trees.{tests_of}
 use Rattle.line_checks.specs.declared.scope.NameFault.{NameFault}
 use Rattle.line_checks.specs.Names.{Names, input_scope}
@@ -28,7 +28,7 @@ pub record IsGuardAt (line : List ℕ) (tokens : List Token) (signature : Signat
 -- no run of tokens derives from a guard; or the longest has more than 64 comparisons; or it has no more, and a name that
 -- is no input
 abbrev pub RefusesRun : List Lexeme → Names → ℕ → Refusal → Type 0
-RefusesRun ts s at (Fault kind.Form) = (said : Guard) → IsGuard ts at said → ⊥
+RefusesRun ts s at (Fault kind.Form) = (said : Guard) → IsGuardText ts at said → ⊥
 RefusesRun ts s at (Fault kind.Unknown) = (end : ℕ) × (said : Guard) × IsRun ts at end said
     × (tests_of (guard_tree said) ≤ 64) × (fault : NameFault) × (guard_check s (guard_tree said) ≡ Some fault)
 RefusesRun ts s at (Fault other) = ⊥

@@ -4,16 +4,15 @@ use Rattle.std.specs.Prelude.{◌≡◌, ℕ, ℤ, List, [], ◌∷◌, ◌++◌
 use Rattle.chart_model.specs.declared.chart.Chart.{Chart}
 use Rattle.chart_model.specs.Box as box
 use Rattle.text_lines.specs.Reading as lines
-use Rattle.line_tokens.specs.declared.error.TokenError.{TokenError}
 use Rattle.line_forms.specs.declared.statement.Signed.{Signed}
-use Rattle.line_forms.specs.declared.statement.WordForm.{WordForm}
-use Rattle.line_forms.specs.Forms.{IsWordForm, value_of}
-use Rattle.line_forms.specs.Views.{IsView}
+use Rattle.line_forms.specs.declared.lexeme.Lexeme.{Lexeme}
+use Rattle.line_forms.specs.Forms.{AreNumbers, value_of}
+use Rattle.line_forms.specs.Parsing.{AreParsed, IsParsed}
 use Rattle.chart_syntax.specs.declared.error.Kind.TheVariants as kind
 use Rattle.chart_syntax.specs.declared.error.Refusal.{Refusal}
 use Rattle.chart_syntax.specs.declared.error.Refusal.TheVariants.{Fault}
 use Rattle.chart_syntax.specs.Checks.{line_error_of}
-use Rattle.chart_syntax.specs.Reading.{refusal_in}
+use Rattle.chart_syntax.specs.Reading.{LineOf, refusal_in}
 
 -- a vector of the chart's box: one number per input, each in its input's range, and every assumption holds
 abbrev pub IsInBox : Chart → List ℤ → Type 0
@@ -38,37 +37,37 @@ abbrev pub ChecksNumbers : Chart → Option (List Signed) → Option Refusal →
 ChecksNumbers chart None check = check ≡ Some (Fault kind.Form)
 ChecksNumbers chart (Some numbers) check = ChecksVector chart (vector_of numbers) check
 
--- what a line is: refused for its tokens, blank, or its numbers
-abbrev pub WordView : Type 0
-WordView = Result (Option WordForm) TokenError
+-- a line of a word is made of numbers
+abbrev pub IsWordLine : List Lexeme → List Signed → Type 0
+IsWordLine ts numbers = AreNumbers ts 0 numbers
 
--- what refuses a line that is seen as this
-abbrev pub ChecksView : Chart → WordView → Option Refusal → Type 0
-ChecksView chart (Err error) check = check ≡ refusal_in (line_error_of error)
-ChecksView chart (Ok None) check = check ≡ None
-ChecksView chart (Ok (Some form)) check = ChecksNumbers chart form.numbers check
+-- what refuses a line that is parsed as this
+abbrev pub ChecksParsed : Chart → LineOf (List Signed) → Option Refusal → Type 0
+ChecksParsed chart (Err error) check = check ≡ refusal_in (line_error_of error)
+ChecksParsed chart (Ok None) check = check ≡ None
+ChecksParsed chart (Ok (Some parsed)) check = ChecksNumbers chart parsed.form check
 
 abbrev pub vectors_in : Option (List Signed) → List (List ℤ)
 vectors_in None = []
 vectors_in (Some numbers) = vector_of numbers ∷ []
 
 -- the vector of a line, none where it is blank
-abbrev pub vectors_of : WordView → List (List ℤ)
+abbrev pub vectors_of : LineOf (List Signed) → List (List ℤ)
 vectors_of (Err error) = []
 vectors_of (Ok None) = []
-vectors_of (Ok (Some form)) = vectors_in form.numbers
+vectors_of (Ok (Some parsed)) = vectors_in parsed.form
 
 -- the chart, and the vectors of the lines so far
 pub record WordState : Type 0 where
   pub chart : Chart
   pub vectors : List (List ℤ)
 
-abbrev pub next_vectors : WordState → WordView → WordState
-next_vectors s view = record s { vectors = s.vectors ++ vectors_of view }
+abbrev pub next_vectors : WordState → LineOf (List Signed) → WordState
+next_vectors s parsed = record s { vectors = s.vectors ++ vectors_of parsed }
 
 -- what a line leads to, or why it is refused
 abbrev pub TakesVector : WordState → List ℕ → Result WordState Refusal → Type 0
-TakesVector = lines.StepBy (IsView IsWordForm) (λ s view. ChecksView s.chart view) next_vectors
+TakesVector = lines.StepBy (IsParsed (AreParsed IsWordLine)) (λ s parsed. ChecksParsed s.chart parsed) next_vectors
 
 -- a word may end anywhere
 abbrev pub nothing_missing : WordState → Option Refusal

@@ -1,7 +1,8 @@
 ghost use Rattle.std.specs.Prelude.{◌≡◌, map};
 ghost use Rattle.std.specs.List.{All};
 ghost use Rattle.line_forms.specs.Limits.{IsSmallAction};
-ghost use Rattle.chart_syntax.specs.inside.Answers.{Answers, Builds, Finds};
+ghost use Rattle.line_checks.specs.Answers.{Finds, Gives};
+ghost use Rattle.chart_syntax.specs.inside.Answers.{Builds};
 ghost use Rattle.chart_syntax.specs.Checks.{place_of_name, place_check, action_check, action_of, actions_check};
 ghost use Rattle.chart_syntax.specs.Checks.{actions_of};
 ghost use Rattle.chart_syntax.specs.inside.Promises.{HasFew};
@@ -36,7 +37,7 @@ fn place(reader: &Reader, name: Name) -> Result<Place, Refusal>
 fn action(alloc: Global, reader: &Reader, form: &ActionForm) -> Result<Action, Refusal>
     requires few { HasFew reader.now }
     requires small { IsSmallAction form.now }
-    ensures { Answers (action_check reader.now form.now) (action_of reader.now form.now) result }
+    ensures { Gives (action_check reader.now form.now) (action_of reader.now form.now) result }
 {
     let place = place(reader, form.name)?;
     let scope = ActionScope { reader };

@@ -1,8 +1,8 @@
 //! The checks of a line that need no names to be looked up, each by itself.
 ghost use Rattle.std.specs.Prelude.{◌≡◌, ◌<◌, ◌^◌, Some};
 ghost use Rattle.line_forms.specs.declared.statement.Statement.TheVariants as says;
-ghost use Rattle.chart_syntax.specs.inside.Answers.{Passes};
-ghost use Rattle.chart_syntax.specs.Checks.{group_of, is_version, is_formed, line_check, order_check};
+ghost use Rattle.line_checks.specs.Answers.{MakesCheck};
+ghost use Rattle.chart_syntax.specs.Checks.{group_of, is_version, is_formed, first_word_check, order_check};
 ghost use Rattle.chart_syntax.specs.Checks.{form_check, comparisons_check, range_check, start_check, count_check};
 ghost use Rattle.chart_syntax.specs.Checks.{fault_check, limit_check, is_outside, is_bounded, memory_size};
 ghost use Rattle.chart_syntax.specs.Checks.{is_constant, resolved_of, constant_in, parent_in, state_in};
@@ -15,7 +15,7 @@ use crate::state::{depth, has_line, has_start};
 use crate::value::value;
 use lin_form::Comparison;
 use line_checks::comparisons_left;
-use line_forms::{Keyword, MemoryForm, Sighted, Statement};
+use line_forms::{Keyword, MemoryForm, ParsedLine, Statement};
 
 const MOST_COMPARISONS: usize = 64;
 
@@ -38,7 +38,7 @@ const LARGEST_DEPTH: usize = 8;
 const MOST_TRANSITIONS: usize = 256;
 
 fn fault_if(met: bool, kind: Kind) -> Result<(), Refusal>
-    ensures { Passes (fault_check met kind) result }
+    ensures { MakesCheck (fault_check met kind) result }
 {
     if met {
         return Err(Refusal::Fault(kind));
@@ -47,7 +47,7 @@ fn fault_if(met: bool, kind: Kind) -> Result<(), Refusal>
 }
 
 fn limit_if(passed: bool, which: Which) -> Result<(), Refusal>
-    ensures { Passes (limit_check passed which) result }
+    ensures { MakesCheck (limit_check passed which) result }
 {
     if passed {
         return Err(Refusal::Limit(which));
@@ -81,21 +81,21 @@ fn states_version(form: &Option<Statement>) -> bool
 }
 
 /// Whether the first line states a version, and a later line begins with a word that begins lines.
-pub fn check_line(reader: &Reader, sighted: &Sighted) -> Result<(), Refusal>
-    ensures { Passes (line_check reader.now sighted.now) result }
+pub fn check_first_word(reader: &Reader, parsed: &ParsedLine<Statement>) -> Result<(), Refusal>
+    ensures { MakesCheck (first_word_check reader.now parsed.now) result }
 {
     if reader.version == 0 {
-        return fault_if(!states_version(&sighted.form), Kind::Version);
+        return fault_if(!states_version(&parsed.form), Kind::Version);
     }
-    fault_if(group(reader.version, sighted.head) == 0, Kind::NoSuchLine)
+    fault_if(group(reader.version, parsed.head) == 0, Kind::NoSuchLine)
 }
 
 /// Whether a later line stands after no line of a later group.
-pub fn check_order(reader: &Reader, sighted: &Sighted) -> Result<(), Refusal>
-    ensures { Passes (order_check reader.now sighted.now) result }
+pub fn check_order(reader: &Reader, parsed: &ParsedLine<Statement>) -> Result<(), Refusal>
+    ensures { MakesCheck (order_check reader.now parsed.now) result }
 {
     fault_if(
-        reader.version != 0 && group(reader.version, sighted.head) < reader.group,
+        reader.version != 0 && group(reader.version, parsed.head) < reader.group,
         Kind::Misplaced,
     )
 }
@@ -111,10 +111,10 @@ fn is_form_of(version: u32, said: &Statement) -> bool
 }
 
 /// Whether the line's tokens derive from a form of the version.
-pub fn check_form(reader: &Reader, sighted: &Sighted) -> Result<(), Refusal>
-    ensures { Passes (form_check reader.now sighted.now) result }
+pub fn check_form(reader: &Reader, parsed: &ParsedLine<Statement>) -> Result<(), Refusal>
+    ensures { MakesCheck (form_check reader.now parsed.now) result }
 {
-    match &sighted.form {
+    match &parsed.form {
         Some(said) => fault_if(!is_form_of(reader.version, said), Kind::Form),
         None => Err(Refusal::Fault(Kind::Form)),
     }
@@ -122,7 +122,7 @@ pub fn check_form(reader: &Reader, sighted: &Sighted) -> Result<(), Refusal>
 
 /// Whether the line's guard has at most 64 comparisons.
 pub fn check_comparisons(reader: &Reader, said: &Statement) -> Result<(), Refusal>
-    ensures { Passes (comparisons_check reader.now said.now) result }
+    ensures { MakesCheck (comparisons_check reader.now said.now) result }
 {
     let Statement::On(form) = said else {
         return Ok(());
@@ -130,7 +130,7 @@ pub fn check_comparisons(reader: &Reader, said: &Statement) -> Result<(), Refusa
     let Some(guard) = &form.guard else {
         return Ok(());
     };
-    match comparisons_left(guard.condition(), MOST_COMPARISONS) {
+    match comparisons_left(guard.tree(), MOST_COMPARISONS) {
         Some(_) => Ok(()),
         None => Err(Refusal::Limit(Which::Comparisons)),
     }
@@ -169,7 +169,7 @@ fn is_outside(form: &MemoryForm) -> bool
 /// Whether the line's range has a number, its value lies in the range, and its assumption speaks of an input.
 pub fn check_range(reader: &Reader, said: &Statement, resolved: &Resolved) -> Result<(), Refusal>
     requires { resolved.now ≡ resolved_of reader.now said.now }
-    ensures { Passes (range_check reader.now said.now) result }
+    ensures { MakesCheck (range_check reader.now said.now) result }
 {
     match said {
         Statement::Input(form) => fault_if(value(form.hi) < value(form.lo), Kind::Range),
@@ -202,7 +202,7 @@ fn state_in(resolved: &Resolved) -> usize
 /// Whether a new start is the only one there, and a line on entry or exit the only one of its state.
 pub fn check_start(reader: &Reader, said: &Statement, resolved: &Resolved) -> Result<(), Refusal>
     requires { resolved.now ≡ resolved_of reader.now said.now }
-    ensures { Passes (start_check reader.now said.now) result }
+    ensures { MakesCheck (start_check reader.now said.now) result }
 {
     match said {
         Statement::State(form) => fault_if(
@@ -238,7 +238,7 @@ pub fn range_size(form: &MemoryForm) -> u64
 
 fn check_memory_count(reader: &Reader, form: &MemoryForm) -> Result<(), Refusal>
     requires { HasFew reader.now }
-    ensures { Passes (count_check reader.now (says.Memory form.now)) result }
+    ensures { MakesCheck (count_check reader.now (says.Memory form.now)) result }
 {
     if reader.memories.len() >= MOST_MEMORIES {
         return Err(Refusal::Limit(Which::Memories));
@@ -256,7 +256,7 @@ fn check_memory_count(reader: &Reader, form: &MemoryForm) -> Result<(), Refusal>
 pub fn check_count(reader: &Reader, said: &Statement, resolved: &Resolved) -> Result<(), Refusal>
     requires partial { IsPartial reader.now }
     requires resolved { resolved.now ≡ resolved_of reader.now said.now }
-    ensures { Passes (count_check reader.now said.now) result }
+    ensures { MakesCheck (count_check reader.now said.now) result }
 {
     match said {
         Statement::Input(_) => limit_if(reader.inputs.len() >= MOST_INPUTS, Which::Inputs),

@@ -3,7 +3,7 @@ ghost use Rattle.line_forms.specs.declared.statement.Statement.TheVariants as sa
 ghost use Rattle.chart_syntax.specs.Checks.{is_variable, state_names, names_check, memory_size};
 ghost use Rattle.chart_syntax.specs.Checks.{resolved_of, next_statement, with_assumption, with_state, with_entry};
 ghost use Rattle.chart_syntax.specs.Checks.{with_exit, with_transition, declared_state, parent_number};
-ghost use Rattle.line_checks.specs.Names.{is_declared};
+ghost use Rattle.line_checks.specs.Names.{has_name};
 ghost use Rattle.chart_syntax.specs.inside.Promises.{HasFew, IsPartial};
 
 use crate::check::range_size;
@@ -63,7 +63,7 @@ fn declare_memory(reader: &mut Reader, form: MemoryForm) -> Result<(), AllocErro
 }
 
 fn declare_state(reader: &mut Reader, state: DeclaredState) -> Result<(), AllocError>
-    requires { is_declared state.name (state_names reader.old) ≡ false }
+    requires { has_name state.name (state_names reader.old) ≡ false }
     ensures { OnOk result (reader.new ≡ with_state reader.old state) }
 {
     if reader.states.push(state).is_err()

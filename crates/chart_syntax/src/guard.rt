@@ -34,7 +34,7 @@ pub fn condition(
         alloc,
         &GuardScope { reader },
         reader.inputs.len(),
-        guard.condition(),
+        guard.tree(),
     ) {
         Ok(guard) => Ok(Some(Condition::new(guard))),
         Err(Unresolved::Fault(fault)) => Err(LineError::Refused(name_refusal(fault))),

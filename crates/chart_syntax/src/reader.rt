@@ -1,7 +1,7 @@
 ghost use Rattle.std.specs.Prelude.{◌≡◌};
 ghost use Rattle.chart_syntax.specs.Checks.{start};
 
-use crate::table::{Named, Table};
+use crate::table::{NameTable, Named};
 use chart_model::{Action, Transition};
 use lin_form::{Comparison, Name};
 use line_forms::{InputForm, MemoryForm, OutputForm};
@@ -36,13 +36,13 @@ pub struct Reader {
     /// 6 for
     /// what states do; 0 before all of them.
     pub group: u8,
-    pub inputs: Table<InputForm>,
+    pub inputs: NameTable<InputForm>,
     pub assumed: Items<Comparison>,
-    pub outputs: Table<OutputForm>,
-    pub memories: Table<MemoryForm>,
+    pub outputs: NameTable<OutputForm>,
+    pub memories: NameTable<MemoryForm>,
     /// The product of the sizes of the memories' ranges.
     pub product: u64,
-    pub states: Table<DeclaredState>,
+    pub states: NameTable<DeclaredState>,
     /// For each state the actions of its entry line, once that is read.
     pub entries: Items<Option<Items<Action>>>,
     /// For each state the actions of its exit line, once that is read.
@@ -57,12 +57,12 @@ pub fn begin(alloc: Global) -> Reader
     Reader {
         version: 0,
         group: 0,
-        inputs: Table::new(alloc),
+        inputs: NameTable::new(alloc),
         assumed: Items::new(alloc),
-        outputs: Table::new(alloc),
-        memories: Table::new(alloc),
+        outputs: NameTable::new(alloc),
+        memories: NameTable::new(alloc),
         product: 1,
-        states: Table::new(alloc),
+        states: NameTable::new(alloc),
         entries: Items::new(alloc),
         exits: Items::new(alloc),
         transitions: Items::new(alloc),

@@ -2,7 +2,8 @@ ghost use Rattle.std.specs.Prelude.{◌≡◌};
 ghost use Rattle.std.specs.List.{All};
 ghost use Rattle.line_forms.specs.declared.statement.Statement.TheVariants as says;
 ghost use Rattle.line_forms.specs.Limits.{IsSmallAction, IsSmallTest, IsSmallStatement};
-ghost use Rattle.chart_syntax.specs.inside.Answers.{Answers, Builds};
+ghost use Rattle.line_checks.specs.Answers.{Gives};
+ghost use Rattle.chart_syntax.specs.inside.Answers.{Builds};
 ghost use Rattle.chart_syntax.specs.Checks.{is_variable, double_check, names_check, resolved_of};
 ghost use Rattle.chart_syntax.specs.inside.Promises.{HasFew};
 
@@ -41,7 +42,7 @@ fn is_variable(reader: &Reader, name: Name) -> bool
 
 /// The answer to a new name, by whether it is declared.
 fn new_name(declared: bool) -> Result<Resolved, Refusal>
-    ensures { Answers (double_check declared) Resolved.Nothing result }
+    ensures { Gives (double_check declared) Resolved.Nothing result }
 {
     if declared {
         return Err(Refusal::Fault(Kind::Double));
@@ -50,7 +51,7 @@ fn new_name(declared: bool) -> Result<Resolved, Refusal>
 }
 
 fn resolve_state(reader: &Reader, form: StateForm) -> Result<Resolved, Refusal>
-    ensures { Answers (names_check reader.now (says.State form)) (resolved_of reader.now (says.State form)) result }
+    ensures { Gives (names_check reader.now (says.State form)) (resolved_of reader.now (says.State form)) result }
 {
     if reader.states.has(form.name) {
         return Err(Refusal::Fault(Kind::Double));
@@ -65,7 +66,7 @@ fn resolve_state(reader: &Reader, form: StateForm) -> Result<Resolved, Refusal>
 fn resolve_assumption(alloc: Global, reader: &Reader, form: &TestForm) -> Result<Resolved, Refusal>
     requires few { HasFew reader.now }
     requires small { IsSmallTest form.now }
-    ensures { Answers (names_check reader.now (says.Assume form.now))
+    ensures { Gives (names_check reader.now (says.Assume form.now))
         (resolved_of reader.now (says.Assume form.now)) result }
 {
     let scope = AssumptionScope { reader };

@@ -1,6 +1,6 @@
 //! What the names of a sum may stand for, by where the sum stands.
 ghost use Rattle.std.specs.Prelude.{◌≡◌, ◌++◌};
-ghost use Rattle.line_checks.specs.Names.{is_declared};
+ghost use Rattle.line_checks.specs.Names.{has_name};
 ghost use Rattle.chart_syntax.specs.Scopes.{input_names, output_names, refusal_of};
 ghost use Rattle.chart_syntax.specs.inside.Promises.{HasFew};
 
@@ -57,7 +57,7 @@ impl<'a> Scope for AssumptionScope<'a> {
 
 /// Whether an input or an output has the name.
 fn is_misused(reader: &Reader, name: Name) -> bool
-    ensures { result ≡ is_declared name (input_names reader.now ++ output_names reader.now) }
+    ensures { result ≡ has_name name (input_names reader.now ++ output_names reader.now) }
 {
     reader.inputs.has(name) || reader.outputs.has(name)
 }

@@ -1,6 +1,6 @@
 ghost use Rattle.std.specs.Prelude.{◌≡◌, ◌<◌, length, IfOk};
 ghost use Rattle.std.specs.List.{list_any};
-ghost use Rattle.chart_syntax.specs.inside.Answers.{Answers};
+ghost use Rattle.line_checks.specs.Answers.{Gives};
 ghost use Rattle.chart_syntax.specs.Checks.{state_names, state_check, number_of, some_state_check, parent_number};
 ghost use Rattle.chart_syntax.specs.Checks.{is_start_under, same_parent, has_line, depth_under};
 ghost use Rattle.chart_syntax.specs.inside.Promises.{IsPartial};
@@ -13,7 +13,7 @@ use sqlite_items::Items;
 
 /// The number of a declared state.
 pub fn state(reader: &Reader, name: Name) -> Result<usize, Refusal>
-    ensures found { Answers (state_check reader.now name) (number_of name (state_names reader.now)) result }
+    ensures found { Gives (state_check reader.now name) (number_of name (state_names reader.now)) result }
     ensures within { IfOk result (λ number. number < length reader.now.states) }
 {
     match reader.states.find(name) {
@@ -24,7 +24,7 @@ pub fn state(reader: &Reader, name: Name) -> Result<usize, Refusal>
 
 /// The number of the state that contains a new one, if one does.
 pub fn parent(reader: &Reader, name: Option<Name>) -> Result<Option<usize>, Refusal>
-    ensures { Answers (some_state_check reader.now name) (parent_number reader.now name) result }
+    ensures { Gives (some_state_check reader.now name) (parent_number reader.now name) result }
 {
     let Some(name) = name else {
         return Ok(None);

@@ -1,5 +1,5 @@
 ghost use Rattle.std.specs.Prelude.{◌≡◌, ◌++◌, ◌∷◌, [], ◌<◌, length, false, map, OnOk, OnErr, IfSome};
-ghost use Rattle.line_checks.specs.Names.{is_declared, place_of};
+ghost use Rattle.line_checks.specs.Names.{has_name, place_of};
 
 use indexmap::IndexSet;
 use lin_form::Name;
@@ -18,12 +18,12 @@ pub trait Named: Copy {
 
 /// Declared things in order, which are found by their names.
 #[derive(Drop)]
-pub struct Table<T: Named> {
+pub struct NameTable<T: Named> {
     list: Vec<T>,
     names: IndexSet<Name>,
 }
 
-impl<T: Named> Model for Table<T> {
+impl<T: Named> Model for NameTable<T> {
     ghost use Rattle.std.specs.Prelude.{◌≡◌, List, map};
 
     ghost Value = { List T };
@@ -33,11 +33,11 @@ impl<T: Named> Model for Table<T> {
     ghost invariant = { λ table. table.names.keys ≡ map T.name_of table.list.items };
 }
 
-impl<T: Named> Table<T> {
-    pub fn new(alloc: Global) -> Table<T>
+impl<T: Named> NameTable<T> {
+    pub fn new(alloc: Global) -> NameTable<T>
         ensures { result ≡ [] }
     {
-        Table {
+        NameTable {
             list: Vec::new(alloc),
             names: IndexSet::new(alloc),
         }
@@ -57,7 +57,7 @@ impl<T: Named> Table<T> {
 
     /// Whether something has the name.
     pub fn has(&self, name: Name) -> bool
-        ensures { result ≡ is_declared name (map T.name_of self.now) }
+        ensures { result ≡ has_name name (map T.name_of self.now) }
     {
         self.names.contains(&name)
     }
@@ -71,7 +71,7 @@ impl<T: Named> Table<T> {
     }
 
     pub fn push(&mut self, element: T) -> Result<(), AllocError>
-        requires { is_declared (T.name_of element) (map T.name_of self.old) ≡ false }
+        requires { has_name (T.name_of element) (map T.name_of self.old) ≡ false }
         ensures ok { OnOk result (self.new ≡ self.old ++ element ∷ []) }
         ensures err { OnErr result (self.new ≡ self.old) }
     {

@@ -1,16 +1,18 @@
-ghost use Rattle.line_forms.specs.Limits.{IsSmallStatement, IsSmallSight};
+ghost use Rattle.std.specs.Option.{ForSome};
+ghost use Rattle.line_forms.specs.Limits.{IsSmallStatement};
 ghost use Rattle.chart_syntax.specs.inside.Answers.{Takes};
 ghost use Rattle.chart_syntax.specs.Checks.{checks, statement_checks, next, next_statement};
 ghost use Rattle.chart_syntax.specs.inside.Promises.{IsPartial};
 
 use crate::check::{
-    check_comparisons, check_count, check_form, check_line, check_order, check_range, check_start,
+    check_comparisons, check_count, check_first_word, check_form, check_order, check_range,
+    check_start,
 };
 use crate::declare::declare;
 use crate::error::Refusal;
 use crate::reader::Reader;
 use crate::resolve::resolve;
-use line_forms::{Sighted, Statement};
+use line_forms::{ParsedLine, Statement};
 use std::alloc::Global;
 use text_lines::LineError;
 
@@ -51,24 +53,28 @@ fn take_statement(
 }
 
 /// Makes the checks of a line in their order, and takes what it declares.
-pub fn take(alloc: Global, reader: &mut Reader, sighted: &Sighted) -> Result<(), LineError<Refusal>>
+pub fn take(
+    alloc: Global,
+    reader: &mut Reader,
+    parsed: &ParsedLine<Statement>,
+) -> Result<(), LineError<Refusal>>
     requires partial { IsPartial reader.old }
-    requires small { IsSmallSight sighted.now }
-    ensures { Takes checks next reader.old reader.new sighted.now result }
+    requires small { ForSome parsed.now.form IsSmallStatement }
+    ensures { Takes checks next reader.old reader.new parsed.now result }
 {
-    match check_line(reader, sighted) {
+    match check_first_word(reader, parsed) {
         Ok(()) => {}
         Err(refusal) => return Err(LineError::Refused(refusal)),
     }
-    match check_order(reader, sighted) {
+    match check_order(reader, parsed) {
         Ok(()) => {}
         Err(refusal) => return Err(LineError::Refused(refusal)),
     }
-    match check_form(reader, sighted) {
+    match check_form(reader, parsed) {
         Ok(()) => {}
         Err(refusal) => return Err(LineError::Refused(refusal)),
     }
-    match &sighted.form {
+    match &parsed.form {
         Some(said) => take_statement(alloc, reader, said),
         None => Ok(()),
     }

@@ -10,7 +10,7 @@ use crate::scan::token_error;
 use crate::state::has_start;
 use crate::take::take;
 use chart_model::Chart;
-use line_forms::Viewer;
+use line_forms::{LineParser, Statement, small_parse};
 use std::alloc::Global;
 use text_lines::{LineError, TextError, TextReader, read_text};
 
@@ -49,7 +49,7 @@ fn missing(reader: &Reader) -> Option<Refusal>
 /// Reads a chart.
 #[derive(Drop)]
 struct ChartReader {
-    viewer: Viewer,
+    parser: LineParser,
     reader: Reader,
 }
 
@@ -59,7 +59,7 @@ impl TextReader for ChartReader {
     ghost use Rattle.chart_syntax.specs.declared.reader.Reader.{Reader};
     ghost use Rattle.chart_syntax.specs.Checks.{end_check};
     ghost use Rattle.chart_syntax.specs.inside.Promises.{IsPartial};
-    ghost use Rattle.chart_syntax.specs.Reading.{TakesSight};
+    ghost use Rattle.chart_syntax.specs.Reading.{TakesLine};
 
     ghost State = { Reader };
 
@@ -67,17 +67,18 @@ impl TextReader for ChartReader {
 
     ghost Kept = { IsPartial };
 
-    ghost Step = { TakesSight };
+    ghost Step = { TakesLine };
 
     ghost end = { end_check };
 
     fn take(&mut self, alloc: Global, line: &[u8]) -> Result<(), LineError<Refusal>> {
-        let sighted = match self.viewer.see(alloc, line) {
-            Ok(Some(sighted)) => sighted,
+        small_parse::<Statement>();
+        let parsed = match self.parser.parse::<Statement>(alloc, line) {
+            Ok(Some(parsed)) => parsed,
             Ok(None) => return Ok(()),
             Err(error) => return Err(token_error(error)),
         };
-        take(alloc, &mut self.reader, &sighted)
+        take(alloc, &mut self.reader, &parsed)
     }
 
     fn end(&self) -> Option<Refusal> {
@@ -94,7 +95,7 @@ pub fn read_chart(alloc: Global, text: &[u8]) -> Result<Chart, ChartError>
     ensures refused { IfErr result (IsRefusedBy (Refuses text.now)) }
 {
     let mut reader = ChartReader {
-        viewer: Viewer::new(alloc),
+        parser: LineParser::new(alloc),
         reader: begin(alloc),
     };
     match read_text(alloc, text, &mut reader) {
@@ -104,7 +105,7 @@ pub fn read_chart(alloc: Global, text: &[u8]) -> Result<Chart, ChartError>
         }
         Err(TextError::Memory) => return Err(ChartError::Memory),
     }
-    let ChartReader { viewer: _, reader } = reader;
+    let ChartReader { parser: _, reader } = reader;
     match chart(alloc, reader) {
         Ok(chart) => Ok(chart),
         Err(_) => Err(ChartError::Memory),

@@ -2,7 +2,8 @@ ghost use Rattle.std.specs.Prelude.{◌≡◌, option_map};
 ghost use Rattle.std.specs.List.{list_any};
 ghost use Rattle.line_forms.specs.declared.statement.Statement.TheVariants as says;
 ghost use Rattle.line_forms.specs.Limits.{IsSmallOn};
-ghost use Rattle.chart_syntax.specs.inside.Answers.{Answers, Builds};
+ghost use Rattle.line_checks.specs.Answers.{Gives};
+ghost use Rattle.chart_syntax.specs.inside.Answers.{Builds};
 ghost use Rattle.chart_syntax.specs.Checks.{state_names, number_of, is_parent, is_child_of, target_check};
 ghost use Rattle.chart_syntax.specs.Checks.{names_check, transition_of};
 ghost use Rattle.chart_syntax.specs.inside.Promises.{HasFew};
@@ -39,7 +40,7 @@ fn is_parent(reader: &Reader, number: usize) -> bool
 
 /// The target, if there is one.
 fn target(reader: &Reader, name: Option<Name>, history: bool) -> Result<Option<usize>, Refusal>
-    ensures { Answers (target_check reader.now name history)
+    ensures { Gives (target_check reader.now name history)
         (option_map (λ target. number_of target (state_names reader.now)) name) result }
 {
     let Some(name) = name else {

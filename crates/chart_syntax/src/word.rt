@@ -9,7 +9,7 @@ use crate::scan::token_error;
 use crate::value::value;
 use chart_model::Chart;
 use lin_form::{Comparison, Vector, holds};
-use line_forms::{Signed, Viewer, WordForm};
+use line_forms::{LineParser, Numbers, ParsedLine, Signed};
 use std::alloc::Global;
 use text_lines::{LineError, TextError, TextReader, read_text};
 
@@ -39,10 +39,10 @@ fn values(numbers: &[Signed]) -> [i64; 6]
 }
 
 /// The vector of a line of a word.
-fn vector(alloc: Global, chart: &Chart, form: &WordForm) -> Result<Vector, Refusal>
-    ensures { GivesVector chart.now form.now.numbers result }
+fn vector(alloc: Global, chart: &Chart, line: &ParsedLine<Numbers>) -> Result<Vector, Refusal>
+    ensures { GivesVector chart.now line.now.form result }
 {
-    let Some(numbers) = &form.numbers else {
+    let Some(numbers) = &line.form else {
         return Err(Refusal::Fault(Kind::Form));
     };
     let count = numbers.as_slice().len();
@@ -59,7 +59,7 @@ fn vector(alloc: Global, chart: &Chart, form: &WordForm) -> Result<Vector, Refus
 /// Reads a word over a chart.
 #[derive(Drop)]
 struct WordReader<'a> {
-    viewer: Viewer,
+    parser: LineParser,
     chart: &'a Chart,
     vectors: Vec<Vector>,
 }
@@ -81,12 +81,12 @@ impl<'a> TextReader for WordReader<'a> {
     ghost end = { nothing_missing };
 
     fn take(&mut self, alloc: Global, line: &[u8]) -> Result<(), LineError<Refusal>> {
-        let form = match self.viewer.see_numbers(alloc, line) {
-            Ok(Some(form)) => form,
+        let parsed = match self.parser.parse::<Numbers>(alloc, line) {
+            Ok(Some(parsed)) => parsed,
             Ok(None) => return Ok(()),
             Err(error) => return Err(token_error(error)),
         };
-        let vector = match vector(alloc, self.chart, &form) {
+        let vector = match vector(alloc, self.chart, &parsed) {
             Ok(vector) => vector,
             Err(refusal) => return Err(LineError::Refused(refusal)),
         };
@@ -112,7 +112,7 @@ pub fn read_word(alloc: Global, text: &[u8], chart: &Chart) -> Result<Vec<Vector
     ensures refused { IfErr result (IsRefusedBy (RefusesWord chart.now text.now)) }
 {
     let mut reader = WordReader {
-        viewer: Viewer::new(alloc),
+        parser: LineParser::new(alloc),
         chart,
         vectors: Vec::new(alloc),
     };
@@ -124,7 +124,7 @@ pub fn read_word(alloc: Global, text: &[u8], chart: &Chart) -> Result<Vec<Vector
         Err(TextError::Memory) => return Err(ChartError::Memory),
     }
     let WordReader {
-        viewer: _,
+        parser: _,
         chart: _,
         vectors,
     } = reader;

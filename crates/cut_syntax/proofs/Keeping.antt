@@ -7,7 +7,9 @@ use Rattle.lin_form.specs.declared.signature.Signature.{Signature}
 use Rattle.chart_model.specs.Cuts.{IsCut}
 use Rattle.text_lines.specs.Reading.{Leads}
 use Rattle.text_lines.proofs.CallerLemmas.{leads_keep}
-use Rattle.cut_syntax.specs.Cuts.{CutsState, CutsView, TakesCut, begin, next_view}
+use Rattle.line_forms.specs.declared.cuts.CutsForm.{CutsForm}
+use Rattle.chart_syntax.specs.Reading.{LineOf, parsed_next}
+use Rattle.cut_syntax.specs.Cuts.{CutsState, TakesCut, begin, next}
 use Rattle.cut_syntax.specs.inside.Lines.{AreRead}
 
 pub nothing_read : (signature : Signature) → AreRead (begin signature)
@@ -23,10 +25,10 @@ one_more s cut read is wide = record {
       All-append Wide s.cuts (cut ∷ []) read.over (All-cons Wide cut [] wide (All-nil Wide));
 }
 
-next_signature : (s : CutsState) (view : CutsView) → (next_view s view).signature ≡ s.signature
+next_signature : (s : CutsState) (parsed : LineOf CutsForm) → (parsed_next next s parsed).signature ≡ s.signature
 next_signature s (Err error) = refl
 next_signature s (Ok None) = refl
-next_signature s (Ok (Some seen)) = refl
+next_signature s (Ok (Some parsed)) = refl
 
 -- the lines keep the signature
 pub same_signature : (lines : List (List ℕ)) (s t : CutsState) → Leads TakesCut s lines t → t.signature ≡ s.signature

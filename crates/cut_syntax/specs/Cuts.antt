@@ -1,27 +1,23 @@
 -- What a text reads as, where it is a list of cuts over a signature, and what refuses it, where it is none.
 use Rattle.std.specs.Prelude.{◌≡◌, ℕ, Bool, true, false, if◌then◌else◌, ◌==◌, List, [], ◌∷◌, ◌++◌, length}
-use Rattle.std.specs.Prelude.{Option, Some, None, Result, Ok, Err}
+use Rattle.std.specs.Prelude.{Option, Some, None, Result}
 use Rattle.std.specs.List.{All}
 use Rattle.lin_form.specs.declared.form.Comparison.{Comparison}
 use Rattle.lin_form.specs.declared.signature.Signature.{Signature}
-use Rattle.line_tokens.specs.declared.error.TokenError.{TokenError}
-use Rattle.text_lines.specs.Reading.{Reads, Refuses, StepBy}
+use Rattle.text_lines.specs.Reading.{Reads, Refuses}
 use Rattle.line_forms.specs.declared.keyword.Keyword.{Keyword}
 use Rattle.line_forms.specs.declared.keyword.Keyword.TheVariants as keyword
 use Rattle.line_forms.specs.declared.parsed.ParsedLine.{ParsedLine}
 use Rattle.line_forms.specs.declared.cuts.CutsForm.{CutsForm}
 use Rattle.line_forms.specs.declared.cuts.CutsForm.TheVariants as form
 use Rattle.line_forms.specs.CutForms.{IsCutsForm}
-use Rattle.line_forms.specs.Formed.{IsSeen}
-use Rattle.line_forms.specs.Views.{IsView}
 use Rattle.line_checks.specs.declared.scope.NameFault.{NameFault}
 use Rattle.line_checks.specs.Names.{input_scope}
 use Rattle.line_checks.specs.Sums.{test_check, comparison_of}
 use Rattle.chart_syntax.specs.declared.error.Kind.TheVariants as kind
 use Rattle.chart_syntax.specs.declared.error.Refusal.{Refusal}
 use Rattle.chart_syntax.specs.declared.error.Refusal.TheVariants.{Fault}
-use Rattle.chart_syntax.specs.Checks.{line_error_of}
-use Rattle.chart_syntax.specs.Reading.{refusal_in}
+use Rattle.chart_syntax.specs.Reading.{TakesBy}
 
 -- the signature, whether the first line was read, and the cuts so far
 pub record CutsState : Type 0 where
@@ -50,8 +46,8 @@ later_check signature (Some keyword.Cut) said = cut_check signature said
 later_check signature other said = Some (Fault kind.NoSuchLine)
 
 abbrev pub line_check : Signature → Bool → ParsedLine CutsForm → Option Refusal
-line_check signature true seen = later_check signature seen.head seen.form
-line_check signature false seen = first_check seen.form
+line_check signature true parsed = later_check signature parsed.head parsed.form
+line_check signature false parsed = first_check parsed.form
 
 -- the comparison of a cut over the inputs
 abbrev pub cut_of : Signature → Option CutsForm → Option Comparison
@@ -62,28 +58,13 @@ abbrev pub listed : Option Comparison → List Comparison
 listed None = []
 listed (Some comparison) = comparison ∷ []
 
--- what a line is: refused for its tokens, blank, or what it says
-abbrev pub CutsView : Type 0
-CutsView = Result (Option (ParsedLine CutsForm)) TokenError
-
-abbrev pub IsCutsView : List ℕ → CutsView → Type 0
-IsCutsView = IsView (IsSeen IsCutsForm)
-
--- what refuses a line that is seen as this; a blank line is refused for its bytes alone
-abbrev pub view_check : CutsState → CutsView → Option Refusal
-view_check s (Err error) = refusal_in (line_error_of error)
-view_check s (Ok None) = None
-view_check s (Ok (Some seen)) = line_check s.signature s.begun seen
-
--- what is read after the line
-abbrev pub next_view : CutsState → CutsView → CutsState
-next_view s (Err error) = s
-next_view s (Ok None) = s
-next_view s (Ok (Some seen)) = record s { begun = true; cuts = s.cuts ++ listed (cut_of s.signature seen.form) }
+-- what is read after a line
+abbrev pub next : CutsState → ParsedLine CutsForm → CutsState
+next s parsed = record s { begun = true; cuts = s.cuts ++ listed (cut_of s.signature parsed.form) }
 
 -- what a line leads to, or why it is refused
 abbrev pub TakesCut : CutsState → List ℕ → Result CutsState Refusal → Type 0
-TakesCut = StepBy IsCutsView (λ s view check. view_check s view ≡ check) next_view
+TakesCut = TakesBy IsCutsForm (λ s parsed. line_check s.signature s.begun parsed) next
 
 -- a text without a line that says something lacks its first
 abbrev pub version_missing : CutsState → Option Refusal

@@ -9,7 +9,7 @@ use chart_model::Cuts;
 use chart_syntax::{ChartError, Kind, Refusal, at_line, token_error};
 use lin_form::{Comparison, Signature};
 use line_checks::{InputScope, comparison};
-use line_forms::{CutsForm, Keyword, ParsedLine, Viewer};
+use line_forms::{CutsForm, Keyword, LineParser, ParsedLine, small_parse};
 use std::alloc::Global;
 use text_lines::{LineError, TextError, TextReader, read_text};
 
@@ -65,17 +65,17 @@ fn added(
     alloc: Global,
     signature: &Signature,
     begun: bool,
-    seen: &ParsedLine<CutsForm>,
+    parsed: &ParsedLine<CutsForm>,
 ) -> Result<Option<Comparison>, Refusal>
-    requires { ForSome seen.now.form IsSmallCutsForm }
-    ensures value { Adds (line_check signature.now begun seen.now) (cut_of signature.now seen.now.form) result }
+    requires { ForSome parsed.now.form IsSmallCutsForm }
+    ensures value { Adds (line_check signature.now begun parsed.now) (cut_of signature.now parsed.now.form) result }
     ensures over { IfOk result (IsOver signature.now) }
 {
     if !begun {
-        return first(signature, &seen.form);
+        return first(signature, &parsed.form);
     }
-    match seen.head {
-        Some(Keyword::Cut) => cut(alloc, signature, &seen.form),
+    match parsed.head {
+        Some(Keyword::Cut) => cut(alloc, signature, &parsed.form),
         _ => Err(Refusal::Fault(Kind::NoSuchLine)),
     }
 }
@@ -83,7 +83,7 @@ fn added(
 /// Reads cuts over a signature.
 #[derive(Drop)]
 struct CutsReader<'a> {
-    viewer: Viewer,
+    parser: LineParser,
     signature: &'a Signature,
     begun: bool,
     cuts: Vec<Comparison>,
@@ -106,12 +106,13 @@ impl<'a> TextReader for CutsReader<'a> {
     ghost end = { version_missing };
 
     fn take(&mut self, alloc: Global, line: &[u8]) -> Result<(), LineError<Refusal>> {
-        let seen = match self.viewer.see_form::<CutsForm>(alloc, line) {
-            Ok(Some(seen)) => seen,
+        small_parse::<CutsForm>();
+        let parsed = match self.parser.parse::<CutsForm>(alloc, line) {
+            Ok(Some(parsed)) => parsed,
             Ok(None) => return Ok(()),
             Err(error) => return Err(token_error(error)),
         };
-        let cut = match added(alloc, self.signature, self.begun, &seen) {
+        let cut = match added(alloc, self.signature, self.begun, &parsed) {
             Ok(cut) => cut,
             Err(refusal) => return Err(LineError::Refused(refusal)),
         };
@@ -146,7 +147,7 @@ pub fn read_cuts(alloc: Global, text: &[u8], signature: &Signature) -> Result<Cu
     ensures width { IfOk result (AreOver signature.now) }
 {
     let mut reader = CutsReader {
-        viewer: Viewer::new(alloc),
+        parser: LineParser::new(alloc),
         signature,
         begun: false,
         cuts: Vec::new(alloc),
@@ -159,7 +160,7 @@ pub fn read_cuts(alloc: Global, text: &[u8], signature: &Signature) -> Result<Cu
         Err(TextError::Memory) => return Err(ChartError::Memory),
     }
     let CutsReader {
-        viewer: _,
+        parser: _,
         signature: _,
         begun: _,
         cuts,

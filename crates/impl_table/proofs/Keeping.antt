@@ -1,10 +1,10 @@
 -- What everything that was declared keeps, line after line.
-use Rattle.std.proofs.Common.{◌≡◌, ℕ, zero, suc, ◌+◌, ◌<◌, ◌≤◌, Bool, true, false, not, ◌&&◌, ◌||◌, cond, List, [], ◌∷◌, ◌++◌, length, map}
+use Rattle.std.proofs.Common.{◌≡◌, ℕ, ◌<◌, ◌≤◌, Bool, true, false, not, ◌&&◌, List, [], ◌∷◌, ◌++◌, length}
 use Rattle.std.proofs.Common.{Option, Some, None, refl, sym, ◌∙◌, ap, subst, arith, length-append}
 use Rattle.std.specs.Prelude.{ℤ, ◌≤ℤ◌, if◌then◌else◌, ◌==◌, nat_lt, nat_le, int_lt, Result, Ok, Err, OnOk, is_some, option_map, unwrap_or}
-use Rattle.std.specs.Prelude.{unsigned_abs, position}
+use Rattle.std.specs.Prelude.{unsigned_abs}
 use Rattle.std.specs.List.{All}
-use Rattle.std.specs.Option.{ForSome, option_map_or}
+use Rattle.std.specs.Option.{ForSome, option_map_or, option_or}
 use Rattle.std.proofs.lemmas.Bool.Decides.{nat_tests}
 use Rattle.std.proofs.lemmas.Int.{ints}
 use Rattle.std.proofs.lemmas.List.{length-map}
@@ -14,14 +14,12 @@ use Rattle.chart_model.specs.Chart.{IsGuard}
 use Rattle.text_lines.specs.declared.read.LineError.{LineError}
 use Rattle.text_lines.specs.declared.read.LineError.TheVariants.{Refused, Memory}
 use Rattle.text_lines.specs.Reading.{Takes}
-use Rattle.line_forms.specs.declared.keyword.Keyword.{Keyword}
-use Rattle.line_forms.specs.declared.lexeme.Lexeme.TheVariants.{Reserved}
 use Rattle.line_forms.specs.declared.parsed.ParsedLine.{ParsedLine}
 use Rattle.line_forms.specs.declared.statement.InputForm.{InputForm}
 use Rattle.line_forms.specs.declared.statement.Signed.{Signed}
 use Rattle.line_forms.specs.declared.statement.Signed.TheVariants as signed
-use Rattle.line_forms.specs.Forms.{value_of, reserved_at, reserved_in}
-use Rattle.line_forms.specs.Formed.{IsSeen, IsFormed}
+use Rattle.line_forms.specs.Forms.{value_of, reserved_in}
+use Rattle.line_forms.specs.Parsing.{AreParsed, IsFormed, IsParsed}
 use Rattle.line_forms.specs.Limits.{IsSmallNumber, IsSmallGuard}
 use Rattle.line_forms.specs.Trees.{Tree, tests_of}
 use Rattle.line_checks.specs.Names.{Names, is_same}
@@ -30,28 +28,23 @@ use Rattle.chart_syntax.specs.declared.error.Kind.TheVariants as kind
 use Rattle.chart_syntax.specs.declared.error.Which.TheVariants as which
 use Rattle.chart_syntax.specs.declared.error.Refusal.{Refusal}
 use Rattle.chart_syntax.specs.declared.error.Refusal.TheVariants.{Fault, Limit}
-use Rattle.line_tokens.specs.Limits.{or_else}
 use Rattle.chart_syntax.specs.Checks.{fault_check, limit_check}
+use Rattle.chart_syntax.specs.Reading.{LineOf}
+use Rattle.chart_syntax.proofs.CallerLemmas.{or_none, taken_keeps}
 use Rattle.impl_table.specs.declared.form.StateForm.{StateForm}
 use Rattle.impl_table.specs.declared.form.RowForm.{RowForm}
 use Rattle.impl_table.specs.declared.form.TableForm.{TableForm}
 use Rattle.impl_table.specs.declared.form.TableForm.TheVariants as form
 use Rattle.impl_table.specs.declared.reader.Declared.{Declared}
 use Rattle.impl_table.specs.declared.table.TableState.{TableState}
-use Rattle.impl_table.specs.declared.table.Row.{Row}
 use Rattle.impl_table.specs.Forms as forms
 use Rattle.impl_table.specs.Forms.{IsTableForm, IsSmallTableForm}
 use Rattle.impl_table.specs.Table.{IsRow}
 use Rattle.impl_table.specs.Reading.{start, group_of, is_version, version_check, word_check, order_check, form_check, is_formed, front_check}
 use Rattle.impl_table.specs.Reading.{comparisons_check, names_check, range_check, count_check, said_check, some_check, line_check, state_check}
-use Rattle.impl_table.specs.Reading.{when_check, state_of, scope_of, state_in, row_in, reply_of, next, some_next, next_view, view_check}
-use Rattle.impl_table.specs.Reading.{TableView, IsTableView, TakesRow}
-use Rattle.impl_table.specs.inside.Lines.{HasRange, AreFew, IsPartial, Declares}
+use Rattle.impl_table.specs.Reading.{when_check, state_of, scope_of, state_in, row_in, next, some_next, TakesRow}
+use Rattle.impl_table.specs.inside.Lines.{HasRange, IsPartial, Declares}
 use Rattle.impl_table.proofs.Rows.{first_word, begins}
-
-pub or_none : (a b : Option Refusal) → or_else a b ≡ None → (a ≡ None) × (b ≡ None)
-or_none None b e = (refl, e)
-or_none (Some r) b e = absurd (cc)
 
 if_none : (b : Bool) (r : Refusal) → (if b then Some r else None) ≡ None → b ≡ false
 if_none true r e = absurd (cc)
@@ -81,12 +74,16 @@ all_of_none P [] none = All-nil P
 all_of_none P (x ∷ xs) none = absurd (none (omega arith))
 
 -- where the first word is that of a form
-pub head_of : (line : List ℕ) (seen : ParsedLine TableForm) (said : TableForm) → IsTableView line (Ok (Some seen)) → seen.form ≡ Some said
-    → seen.head ≡ Some (first_word said)
-head_of line seen said view e =
-    let ts = view.first ∷ view.more in
-    let is : IsTableForm ts said = subst (IsFormed IsTableForm ts) e view.says.form in
-    view.says.head ∙ ap reserved_in (begins ts said is)
+-- what a line of a table is parsed as
+abbrev pub IsTableLine : List ℕ → LineOf TableForm → Type 0
+IsTableLine = IsParsed (AreParsed IsTableForm)
+
+pub head_of : (line : List ℕ) (parsed : ParsedLine TableForm) (said : TableForm) → IsTableLine line (Ok (Some parsed)) → parsed.form ≡ Some said
+    → parsed.head ≡ Some (first_word said)
+head_of line parsed said derived e =
+    let ts = derived.first ∷ derived.more in
+    let is : IsTableForm ts said = subst (IsFormed IsTableForm ts) e derived.says.form in
+    derived.says.head ∙ ap reserved_in (begins ts said is)
 
 begun_if : (b v : Bool) → fault_check (not b && not v) kind.Version ≡ None → v ≡ false → b ≡ true
 begun_if true v e f = refl
@@ -107,21 +104,21 @@ not_false : (b : Bool) → not b ≡ false → b ≡ true
 not_false true e = refl
 not_false false e = absurd (cc)
 
-pub placed : (s : Declared) (line : List ℕ) (seen : ParsedLine TableForm) (said : TableForm) → IsTableView line (Ok (Some seen))
-    → seen.form ≡ Some said → line_check s seen ≡ None → IsPlaced s said
-placed s line seen said view e none =
-    let head = head_of line seen said view e in
-    let front = or_none (front_check s seen) (some_check s seen.form) none in
-    let a = or_none (version_check s seen) (or_else (word_check s seen) (or_else (order_check s seen) (form_check s seen))) front.0 in
-    let b = or_none (word_check s seen) (or_else (order_check s seen) (form_check s seen)) a.1 in
-    let c = or_none (order_check s seen) (form_check s seen) b.1 in
+pub placed : (s : Declared) (line : List ℕ) (parsed : ParsedLine TableForm) (said : TableForm) → IsTableLine line (Ok (Some parsed))
+    → parsed.form ≡ Some said → line_check s parsed ≡ None → IsPlaced s said
+placed s line parsed said derived e none =
+    let head = head_of line parsed said derived e in
+    let front = or_none (front_check s parsed) (some_check s parsed.form) none in
+    let a = or_none (version_check s parsed) (option_or (word_check s parsed) (option_or (order_check s parsed) (form_check s parsed))) front.0 in
+    let b = or_none (word_check s parsed) (option_or (order_check s parsed) (form_check s parsed)) a.1 in
+    let c = or_none (order_check s parsed) (form_check s parsed) b.1 in
     record {
       order = λ other.
-          let begun = begun_if s.begun (is_version seen.form) a.0 (ap is_version e ∙ other) in
-          let less = order_if s.begun (nat_lt (group_of seen.head) s.group) c.0 begun in
-          subst (λ h. s.group ≤ group_of h) head (not_above s.group (group_of seen.head) less);
-      formed = ap (is_formed (length s.outputs)) (sym e) ∙ not_false (is_formed (length s.outputs) seen.form)
-          (if_none (not (is_formed (length s.outputs) seen.form)) (Fault kind.Form) c.1);
+          let begun = begun_if s.begun (is_version parsed.form) a.0 (ap is_version e ∙ other) in
+          let less = order_if s.begun (nat_lt (group_of parsed.head) s.group) c.0 begun in
+          subst (λ h. s.group ≤ group_of h) head (not_above s.group (group_of parsed.head) less);
+      formed = ap (is_formed (length s.outputs)) (sym e) ∙ not_false (is_formed (length s.outputs) parsed.form)
+          (if_none (not (is_formed (length s.outputs) parsed.form)) (Fault kind.Form) c.1);
       passes = subst (λ o. some_check s o ≡ None) e front.1;
     }
 
@@ -219,7 +216,7 @@ partial_row : GuardsFit → (s : Declared) (f : RowForm) → IsPartial s → is_
     → IsSmallTableForm (form.Row f) → comparisons_check (form.Row f) ≡ None → names_check s (form.Row f) ≡ None
     → count_check s (form.Row f) ≡ None → IsPartial (next s (form.Row f))
 partial_row fit s f p formed small tests names count =
-    let a = or_none (state_check s f.from) (or_else (when_check s f.guard) (state_check s f.to)) names in
+    let a = or_none (state_check s f.from) (option_or (when_check s f.guard) (state_check s f.to)) names in
     let b = or_none (when_check s f.guard) (state_check s f.to) a.1 in
     record {
       few = record {
@@ -251,7 +248,7 @@ partial_said fit s (form.Version n) p h small =
       rows_behind = p.rows_behind;
     }
 partial_said fit s (form.Input f) p h small =
-    let b = or_none (names_check s (form.Input f)) (or_else (range_check (form.Input f)) (count_check s (form.Input f))) h.passes in
+    let b = or_none (names_check s (form.Input f)) (option_or (range_check (form.Input f)) (count_check s (form.Input f))) h.passes in
     let c = or_none (range_check (form.Input f)) (count_check s (form.Input f)) b.1 in
     partial_input s f p (h.order refl) small c.0 c.1
 partial_said fit s (form.Output name) p h small =
@@ -261,27 +258,23 @@ partial_said fit s (form.State f) p h small =
     let b = or_none (names_check s (form.State f)) (count_check s (form.State f)) h.passes in
     partial_state s f p (h.order refl) h.formed b.1
 partial_said fit s (form.Row f) p h small =
-    let a = or_none (comparisons_check (form.Row f)) (or_else (names_check s (form.Row f)) (count_check s (form.Row f))) h.passes in
+    let a = or_none (comparisons_check (form.Row f)) (option_or (names_check s (form.Row f)) (count_check s (form.Row f))) h.passes in
     let b = or_none (names_check s (form.Row f)) (count_check s (form.Row f)) a.1 in
     partial_row fit s f p h.formed small a.0 b.0 b.1
 
 -- what a line says is small
 abbrev pub IsSmallAll : Type 0
-IsSmallAll = (line : List ℕ) (seen : ParsedLine TableForm) → IsTableView line (Ok (Some seen)) → ForSome seen.form IsSmallTableForm
+IsSmallAll = (line : List ℕ) (parsed : ParsedLine TableForm) → IsTableLine line (Ok (Some parsed)) → ForSome parsed.form IsSmallTableForm
 
-partial_form : IsSmallAll → GuardsFit → (s : Declared) (line : List ℕ) (seen : ParsedLine TableForm) (o : Option TableForm) → seen.form ≡ o
-    → IsPartial s → IsTableView line (Ok (Some seen)) → line_check s seen ≡ None → IsPartial (some_next s o)
-partial_form small fit s line seen None e p view none = p
-partial_form small fit s line seen (Some said) e p view none = partial_said fit s said p (placed s line seen said view e none) (small line seen view said e)
-
-pub partial_view : IsSmallAll → GuardsFit → (s : Declared) (line : List ℕ) (view : TableView) → IsPartial s → IsTableView line view
-    → view_check s view ≡ None → IsPartial (next_view s view)
-partial_view small fit s line (Err error) p is none = p
-partial_view small fit s line (Ok None) p is none = p
-partial_view small fit s line (Ok (Some seen)) p is none = partial_form small fit s line seen seen.form refl p is none
+partial_form : IsSmallAll → GuardsFit → (s : Declared) (line : List ℕ) (parsed : ParsedLine TableForm) (o : Option TableForm) → parsed.form ≡ o
+    → IsPartial s → IsTableLine line (Ok (Some parsed)) → line_check s parsed ≡ None → IsPartial (some_next s o)
+partial_form small fit s line parsed None e p is none = p
+partial_form small fit s line parsed (Some said) e p is none =
+    partial_said fit s said p (placed s line parsed said is e none) (small line parsed is said e)
 
 pub keeps : IsSmallAll → GuardsFit → (s t : Declared) (line : List ℕ) → IsPartial s → TakesRow s line (Ok t) → IsPartial t
-keeps small fit s t line p taken = subst IsPartial (sym taken.3) (partial_view small fit s line taken.0 p taken.1 taken.2)
+keeps small fit s t line p taken = taken_keeps IsTableForm line_check (λ u parsed. some_next u parsed.form) IsPartial
+    (λ u line parsed p is none. partial_form small fit u line parsed parsed.form refl p is none) s t line p taken
 
 pub nothing_read : IsPartial start
 nothing_read = record {
@@ -294,14 +287,14 @@ nothing_read = record {
 }
 
 -- what a line leads to, by what it says
-pub takes_after : (s t : Declared) (line : List ℕ) (seen : ParsedLine TableForm) (result : Result (Unit {0}) (LineError Refusal))
-    → IsTableView line (Ok (Some seen)) → Declares (line_check s seen) (some_next s seen.form) t result → Takes TakesRow s t line result
-takes_after s t line seen (Ok u) view d = (Ok (Some seen), view, d.0, d.1)
-takes_after s t line seen (Err (Refused refusal)) view d = (Ok (Some seen), view, d)
-takes_after s t line seen (Err Memory) view d = tt
+pub takes_after : (s t : Declared) (line : List ℕ) (parsed : ParsedLine TableForm) (result : Result (Unit {0}) (LineError Refusal))
+    → IsTableLine line (Ok (Some parsed)) → Declares (line_check s parsed) (some_next s parsed.form) t result → Takes TakesRow s t line result
+takes_after s t line parsed (Ok u) is d = (Ok (Some parsed), is, d.0, d.1)
+takes_after s t line parsed (Err (Refused refusal)) is d = (Ok (Some parsed), is, d)
+takes_after s t line parsed (Err Memory) is d = tt
 
-pub kept_after : IsSmallAll → GuardsFit → (s t : Declared) (line : List ℕ) (seen : ParsedLine TableForm)
-    (result : Result (Unit {0}) (LineError Refusal)) → IsPartial s → IsTableView line (Ok (Some seen))
-    → Declares (line_check s seen) (some_next s seen.form) t result → OnOk result (IsPartial t)
-kept_after small fit s t line seen (Ok u) p view d = subst IsPartial (sym d.1) (partial_view small fit s line (Ok (Some seen)) p view d.0)
-kept_after small fit s t line seen (Err error) p view d = tt
+pub kept_after : IsSmallAll → GuardsFit → (s t : Declared) (line : List ℕ) (parsed : ParsedLine TableForm)
+    (result : Result (Unit {0}) (LineError Refusal)) → IsPartial s → IsTableLine line (Ok (Some parsed))
+    → Declares (line_check s parsed) (some_next s parsed.form) t result → OnOk result (IsPartial t)
+kept_after small fit s t line parsed (Ok u) p is d = subst IsPartial (sym d.1) (partial_form small fit s line parsed parsed.form refl p is d.0)
+kept_after small fit s t line parsed (Err error) p is d = tt

@@ -1,5 +1,5 @@
 -- The numbers of a reply stand in one way.
-use Rattle.std.proofs.Common.{◌≡◌, ℕ, ◌+◌, ◌≤◌, ◌<◌, List, [], ◌∷◌, ◌++◌, length, Option, Some, None, refl, sym, ◌∙◌, ap, subst, arith}
+use Rattle.std.proofs.Common.{◌≡◌, ℕ, ◌+◌, ◌<◌, List, [], ◌∷◌, ◌++◌, length, Option, Some, None, refl, sym, ◌∙◌, ap, subst, arith}
 use Rattle.std.specs.Prelude.{slice_get}
 use Rattle.std.proofs.lemmas.Option.{slice_get_within}
 use Rattle.line_forms.specs.declared.keyword.Keyword.{Keyword}
@@ -9,7 +9,7 @@ use Rattle.line_forms.specs.Grammar.{Has}
 use Rattle.impl_table.specs.declared.form.ReplyNumber.{ReplyNumber}
 use Rattle.impl_table.specs.declared.form.ReplyNumber.TheVariants.{Plain, Negated}
 use Rattle.impl_table.specs.Forms.{literal_in, literal_at, IsReplyNumber, number_size, IsReply, reply_size}
-use Rattle.impl_table.specs.inside.Runs.{Ends, IsWholeReply}
+use Rattle.impl_table.specs.inside.Runs.{Ends}
 
 one_literal : (o : Option Lexeme) (n m : ℕ) → literal_in o ≡ Some n → literal_in o ≡ Some m → n ≡ m
 one_literal o n m p q = let h : Some n ≡ Some m = sym p ∙ q in cc

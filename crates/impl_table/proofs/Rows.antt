@@ -1,8 +1,8 @@
 -- A line of a table says one thing, which is read part by part.
-use Rattle.std.proofs.Common.{◌≡◌, ℕ, ◌+◌, ◌≤◌, ◌<◌, List, [], ◌∷◌, length, Option, Some, None, refl, sym, ◌∙◌, ap, subst, arith}
+use Rattle.std.proofs.Common.{◌≡◌, ℕ, ◌+◌, List, length, Option, refl, sym, ◌∙◌, ap, subst}
 use Rattle.std.specs.Prelude.{Err, option_map}
-use Rattle.line_forms.specs.declared.error.FormError.{FormError}
-use Rattle.line_forms.specs.declared.error.FormError.TheVariants.{Form, Memory}
+use Rattle.line_forms.specs.declared.error.ParseError.{ParseError}
+use Rattle.line_forms.specs.declared.error.ParseError.TheVariants.{Form, Memory}
 use Rattle.line_forms.specs.declared.keyword.Keyword.{Keyword}
 use Rattle.line_forms.specs.declared.keyword.Keyword.TheVariants as keyword
 use Rattle.line_forms.specs.declared.lexeme.Lexeme.{Lexeme}
@@ -31,7 +31,7 @@ state_same ts end reply f whole is = reply_same ts 3 end reply f.reply whole is.
 pub state_length : (ts : List Lexeme) (end : ℕ) (reply : List ReplyNumber) (f : StateForm) → IsWholeReply ts 3 end reply → IsStateForm ts f → length ts ≡ end
 state_length ts end reply f whole is = is.4 ∙ ap (λ xs. 3 + reply_size xs) (state_same ts end reply f whole is) ∙ sym whole.ends
 
-pub row_failed : (ts : List Lexeme) (e : FormError) → GivesWhen (IsWhen ts) when_size ts 2 (Err e) → Derives (IsRowForm ts) (Err e)
+pub row_failed : (ts : List Lexeme) (e : ParseError) → GivesWhen (IsWhen ts) when_size ts 2 (Err e) → Derives (IsRowForm ts) (Err e)
 row_failed ts Form none = λ f h. none h.when h.guarded (stopped in_guard ts (2 + when_size h.when) (Reserved keyword.Gives) h.gives refl)
 row_failed ts Memory none = tt
 

@@ -1,42 +1,33 @@
 -- What a line of a table says is as small as the limits on its tokens leave it.
-use Rattle.std.proofs.Common.{◌≡◌, ℕ, zero, suc, ◌+◌, ◌-◌, ◌≤◌, Bool, true, false, ◌||◌, List, [], ◌∷◌, length, map, codes, Option, Some, None}
+use Rattle.std.proofs.Common.{◌≡◌, ℕ, zero, suc, ◌+◌, ◌-◌, ◌≤◌, Bool, true, false, ◌||◌, List, [], ◌∷◌, map, codes, Option, Some, None}
 use Rattle.std.proofs.Common.{refl, sym, ◌∙◌, ap, subst, arith, pos}
-use Rattle.std.specs.Prelude.{if◌then◌else◌, ◌==◌, nat_le, int_lt, slice_get, option_map}
+use Rattle.std.specs.Prelude.{if◌then◌else◌, ◌==◌, nat_le, int_lt}
 use Rattle.std.specs.List.{All}
 use Rattle.std.specs.Char.{is_ascii_digit}
-use Rattle.std.specs.Option.{ForSome}
 use Rattle.std.proofs.lemmas.Bool.Decides.{nat_tests}
 use Rattle.std.proofs.lemmas.Int.{ints}
 use Rattle.std.proofs.lemmas.List.Elements.{All-nil, All-cons}
 use Rattle.lin_form.specs.Name.{starts_name}
-use Rattle.line_tokens.specs.declared.place.Place.{Place}
-use Rattle.line_tokens.specs.declared.token.Token.{Token}
-use Rattle.line_tokens.specs.declared.token.Word.{Word}
+use Rattle.line_tokens.specs.declared.span.Span.{Span}
 use Rattle.line_tokens.specs.declared.token.Word.TheVariants as word
-use Rattle.line_tokens.specs.declared.error.TokenLimit.{TokenLimit}
 use Rattle.line_tokens.specs.declared.error.TokenLimit.TheVariants as token_limits
 use Rattle.line_tokens.specs.Lines.{content_of}
 use Rattle.line_tokens.specs.Spelling.{starts, decimal_value, symbol_number}
 use Rattle.line_tokens.specs.Tokens.{token_at, spelling, run}
-use Rattle.line_tokens.specs.Limits.{or_else, first_limit, word_limit, token_limit, is_word, is_nesting, largest_literal}
+use Rattle.line_tokens.specs.Limits.{first_limit, word_limit, token_limit, is_word, largest_literal}
 use Rattle.line_forms.specs.declared.keyword.Keyword.{Keyword}
 use Rattle.line_forms.specs.declared.lexeme.Lexeme.{Lexeme}
 use Rattle.line_forms.specs.declared.lexeme.Lexeme.TheVariants.{Number, Wide, Comma, Close}
 use Rattle.line_forms.specs.Lexemes.{keyword_of, name_meaning, symbol_of, meaning_of, lexeme_of, IsLexed}
-use Rattle.line_forms.specs.Limits.{IsSmallGuard}
-use Rattle.line_forms.specs.Grammar.{guard_tree}
 use Rattle.line_forms.specs.Forms.{signed_size}
 use Rattle.line_forms.proofs.Small.{plain_lexemes, small_signed, small_when}
 use Rattle.line_forms.proofs.Sound.{short_lexed}
+use Rattle.chart_syntax.proofs.CallerLemmas.{or_none}
 use Rattle.impl_table.specs.declared.form.ReplyNumber.{ReplyNumber}
 use Rattle.impl_table.specs.declared.form.ReplyNumber.TheVariants.{Plain, Negated}
 use Rattle.impl_table.specs.declared.form.TableForm.{TableForm}
 use Rattle.impl_table.specs.declared.form.TableForm.TheVariants as form
 use Rattle.impl_table.specs.Forms.{literal_in, literal_at, IsReplyNumber, number_size, IsReply, IsTableForm, IsSmallReplyNumber, IsSmallTableForm}
-
-or_none : {T : Type 0} (a b : Option T) → or_else a b ≡ None → (a ≡ None) × (b ≡ None)
-or_none None b e = (refl, e)
-or_none (Some r) b e = absurd (cc)
 
 -- a lexeme that is no number
 abbrev IsOther : Lexeme → Type 0
@@ -87,14 +78,14 @@ small_word true digit after z s n size bytes none e = absurd (no_literal (name_m
 small_word false true after z s n size bytes none e = small_number after z n size bytes none e
 small_word false false after z s n size bytes none e = absurd (no_literal (symbol_of s) n (symbol_other s) e)
 
-small_token : (line : List ℕ) (p : Place) (after : Bool) (n : ℕ) → token_limit after (token_at line p) ≡ None
+small_token : (line : List ℕ) (p : Span) (after : Bool) (n : ℕ) → token_limit after (token_at line p) ≡ None
     → literal_in (Some (lexeme_of line (token_at line p))) ≡ Some n → n ≤ 1000000000000
 small_token line p after n none e =
     let bytes = run line p.from p.to in
     small_word (starts starts_name bytes) (starts is_ascii_digit bytes) after (decimal_value bytes) (symbol_number bytes) n (p.to - p.from)
     (spelling line (token_at line p)) none e
 
-small_tokens : (line : List ℕ) (after : Bool) (ps : List Place) (i n : ℕ) → first_limit line after (map (token_at line) ps) ≡ None
+small_tokens : (line : List ℕ) (after : Bool) (ps : List Span) (i n : ℕ) → first_limit line after (map (token_at line) ps) ≡ None
     → literal_at (map (lexeme_of line) (map (token_at line) ps)) i ≡ Some n → n ≤ 1000000000000
 small_tokens line after [] i n none e = absurd (cc)
 small_tokens line after (p ∷ ps) zero n none e =
@@ -111,9 +102,9 @@ small_literal : (line : List ℕ) (ts : List Lexeme) (i n : ℕ) → IsLexed lin
 small_literal line ts i n lexed e =
     let content = content_of line in
     let are = lexed.tokenized.tokenized.are in
-    let places = lexed.tokenized.tokenized.places in
+    let spans = lexed.tokenized.tokenized.spans in
     let first : first_limit content false lexed.tokens ≡ None = (or_none (first_limit content false lexed.tokens) _ lexed.tokenized.unlimited).0 in
-    small_tokens content false places i n (subst (λ xs. first_limit content false xs ≡ None) are first)
+    small_tokens content false spans i n (subst (λ xs. first_limit content false xs ≡ None) are first)
     (sym (ap (λ xs. literal_at xs i) (lexed.mean ∙ ap (map (lexeme_of content)) are)) ∙ e)
 
 small_reply_number : (line : List ℕ) (ts : List Lexeme) (i : ℕ) (x : ReplyNumber) → IsLexed line ts → IsReplyNumber ts i x → IsSmallReplyNumber x

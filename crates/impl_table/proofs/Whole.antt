@@ -1,5 +1,5 @@
 -- What was declared is the content of one table.
-use Rattle.std.proofs.Common.{◌≡◌, ℕ, ◌+◌, ◌≤◌, Bool, true, false, not, ◌||◌, List, [], ◌∷◌, length, map, Option, Some, None, refl, sym, ◌∙◌, ap, subst, arith}
+use Rattle.std.proofs.Common.{◌≡◌, ℕ, ◌≤◌, Bool, true, false, not, ◌||◌, List, [], ◌∷◌, length, map, Some, None, refl, sym, ◌∙◌, ap, subst, arith}
 use Rattle.std.specs.Prelude.{if◌then◌else◌, ◌==◌}
 use Rattle.std.specs.List.{All}
 use Rattle.std.proofs.Props.{props}
@@ -13,12 +13,10 @@ use Rattle.lin_form.specs.Range.{IsRange, IsCount}
 use Rattle.line_forms.specs.declared.statement.InputForm.{InputForm}
 use Rattle.line_forms.specs.Forms.{value_of}
 use Rattle.chart_syntax.specs.declared.error.Kind.TheVariants as kind
-use Rattle.chart_syntax.specs.declared.error.Refusal.{Refusal}
 use Rattle.chart_syntax.specs.declared.error.Refusal.TheVariants.{Fault}
 use Rattle.chart_syntax.specs.Reading.{bounds_of_input, bounds_of_form}
 use Rattle.impl_table.specs.declared.reader.Declared.{Declared}
 use Rattle.impl_table.specs.declared.table.TableState.{TableState}
-use Rattle.impl_table.specs.declared.table.Row.{Row}
 use Rattle.impl_table.specs.declared.table.Table.{Table}
 use Rattle.impl_table.specs.Table.{IsRow, IsTable}
 use Rattle.impl_table.specs.Reading.{IsContent, end_check, is_missing}

@@ -2,29 +2,24 @@
 -- it is none.
 use Rattle.std.specs.Prelude.{◌≡◌, ℕ, Bool, true, false, not, ◌&&◌, ◌||◌, if◌then◌else◌, ◌==◌, nat_lt, nat_le, int_lt}
 use Rattle.std.specs.Prelude.{List, [], ◌∷◌, ◌++◌, length, map, position, Option, Some, None, option_map, unwrap_or}
-use Rattle.std.specs.Prelude.{ℤ, is_some, Result, Ok, Err}
+use Rattle.std.specs.Prelude.{ℤ, is_some, Result}
 use Rattle.std.specs.List.{list_any}
-use Rattle.std.specs.Option.{option_map_or}
-use Rattle.line_tokens.specs.declared.error.TokenError.{TokenError}
-use Rattle.text_lines.specs.Reading.{Reads, Refuses, StepBy}
+use Rattle.std.specs.Option.{option_map_or, option_or}
+use Rattle.text_lines.specs.Reading.{Reads, Refuses}
 use Rattle.line_forms.specs.declared.keyword.Keyword.{Keyword}
 use Rattle.line_forms.specs.declared.keyword.Keyword.TheVariants as keyword
 use Rattle.line_forms.specs.declared.parsed.ParsedLine.{ParsedLine}
-use Rattle.line_forms.specs.declared.statement.InputForm.{InputForm}
 use Rattle.line_forms.specs.Forms.{value_of}
-use Rattle.line_forms.specs.Formed.{IsSeen}
 use Rattle.line_forms.specs.Trees.{Tree, tests_of}
-use Rattle.line_forms.specs.Views.{IsView}
 use Rattle.line_checks.specs.declared.scope.NameFault.{NameFault}
 use Rattle.line_checks.specs.Names.{Names, is_same}
 use Rattle.line_checks.specs.Guards.{guard_check, guard_of}
 use Rattle.chart_syntax.specs.declared.error.Kind.TheVariants as kind
 use Rattle.chart_syntax.specs.declared.error.Which.TheVariants as which
 use Rattle.chart_syntax.specs.declared.error.Refusal.{Refusal}
-use Rattle.chart_syntax.specs.declared.error.Refusal.TheVariants.{Fault, Limit}
-use Rattle.line_tokens.specs.Limits.{or_else}
-use Rattle.chart_syntax.specs.Checks.{line_error_of, fault_check, limit_check}
-use Rattle.chart_syntax.specs.Reading.{refusal_in, bounds_of_input, bounds_of_form}
+use Rattle.chart_syntax.specs.declared.error.Refusal.TheVariants.{Fault}
+use Rattle.chart_syntax.specs.Checks.{fault_check, limit_check}
+use Rattle.chart_syntax.specs.Reading.{bounds_of_input, bounds_of_form, TakesBy}
 use Rattle.impl_table.specs.declared.form.ReplyNumber.{ReplyNumber}
 use Rattle.impl_table.specs.declared.form.StateForm.{StateForm}
 use Rattle.impl_table.specs.declared.form.RowForm.{RowForm}
@@ -52,15 +47,15 @@ group_of (Some keyword.Row) = 4
 group_of other = 0
 
 abbrev pub version_check : Declared → ParsedLine TableForm → Option Refusal
-version_check s seen = fault_check (not s.begun && not (is_version seen.form)) kind.Version
+version_check s parsed = fault_check (not s.begun && not (is_version parsed.form)) kind.Version
 
 abbrev pub word_check : Declared → ParsedLine TableForm → Option Refusal
-word_check s seen = fault_check (s.begun && group_of seen.head == 0) kind.NoSuchLine
+word_check s parsed = fault_check (s.begun && group_of parsed.head == 0) kind.NoSuchLine
 
 -- check 6: no line of a later group stands before it
 
 abbrev pub order_check : Declared → ParsedLine TableForm → Option Refusal
-order_check s seen = fault_check (s.begun && nat_lt (group_of seen.head) s.group) kind.Misplaced
+order_check s parsed = fault_check (s.begun && nat_lt (group_of parsed.head) s.group) kind.Misplaced
 
 -- check 7: the line has a form, and a reply has a number for each output
 
@@ -71,7 +66,7 @@ is_formed outputs (Some (form.Row f)) = length f.reply == outputs
 is_formed outputs (Some other) = true
 
 abbrev pub form_check : Declared → ParsedLine TableForm → Option Refusal
-form_check s seen = fault_check (not (is_formed (length s.outputs) seen.form)) kind.Form
+form_check s parsed = fault_check (not (is_formed (length s.outputs) parsed.form)) kind.Form
 
 -- check 8
 
@@ -108,7 +103,7 @@ names_check s (form.Version n) = None
 names_check s (form.Input f) = fault_check (is_variable s f.name) kind.Double
 names_check s (form.Output name) = fault_check (is_variable s name) kind.Double
 names_check s (form.State f) = fault_check (is_some (state_of s f.name)) kind.Double
-names_check s (form.Row f) = or_else (state_check s f.from) (or_else (when_check s f.guard) (state_check s f.to))
+names_check s (form.Row f) = option_or (state_check s f.from) (option_or (when_check s f.guard) (state_check s f.to))
 
 -- check 10
 
@@ -126,8 +121,8 @@ count_check s (form.State f) = limit_check (nat_le 1024 (length s.states)) which
 count_check s (form.Row f) = limit_check (nat_le 4096 (length s.rows)) which.Rows
 
 abbrev pub said_check : Declared → TableForm → Option Refusal
-said_check s said = or_else (comparisons_check said) (or_else (names_check s said)
-    (or_else (range_check said) (count_check s said)))
+said_check s said = option_or (comparisons_check said) (option_or (names_check s said)
+    (option_or (range_check said) (count_check s said)))
 
 -- what is said is checked where the line has a form
 abbrev pub some_check : Declared → Option TableForm → Option Refusal
@@ -136,12 +131,12 @@ some_check s (Some said) = said_check s said
 
 -- checks 5 to 7, in their order
 abbrev pub front_check : Declared → ParsedLine TableForm → Option Refusal
-front_check s seen = or_else (version_check s seen) (or_else (word_check s seen)
-    (or_else (order_check s seen) (form_check s seen)))
+front_check s parsed = option_or (version_check s parsed) (option_or (word_check s parsed)
+    (option_or (order_check s parsed) (form_check s parsed)))
 
 -- the checks of a line with tokens, in their order
 abbrev pub line_check : Declared → ParsedLine TableForm → Option Refusal
-line_check s seen = or_else (front_check s seen) (some_check s seen.form)
+line_check s parsed = option_or (front_check s parsed) (some_check s parsed.form)
 
 -- what is declared after a line
 
@@ -170,27 +165,9 @@ abbrev pub some_next : Declared → Option TableForm → Declared
 some_next s None = s
 some_next s (Some said) = next s said
 
--- what a line is: refused for its tokens, blank, or what it says
-abbrev pub TableView : Type 0
-TableView = Result (Option (ParsedLine TableForm)) TokenError
-
-abbrev pub IsTableView : List ℕ → TableView → Type 0
-IsTableView = IsView (IsSeen IsTableForm)
-
--- what refuses a line that is seen as this; a blank line is refused for its bytes alone
-abbrev pub view_check : Declared → TableView → Option Refusal
-view_check s (Err error) = refusal_in (line_error_of error)
-view_check s (Ok None) = None
-view_check s (Ok (Some seen)) = line_check s seen
-
-abbrev pub next_view : Declared → TableView → Declared
-next_view s (Err error) = s
-next_view s (Ok None) = s
-next_view s (Ok (Some seen)) = some_next s seen.form
-
 -- what a line leads to, or why it is refused
 abbrev pub TakesRow : Declared → List ℕ → Result Declared Refusal → Type 0
-TakesRow = StepBy IsTableView (λ s view check. view_check s view ≡ check) next_view
+TakesRow = TakesBy IsTableForm line_check (λ s parsed. some_next s parsed.form)
 
 -- what is checked where the text ends
 abbrev pub is_missing : Declared → Bool

@@ -3,7 +3,7 @@ ghost use Rattle.std.specs.Prelude.{◌≡◌};
 ghost use Rattle.chart_syntax.specs.Checks.{fault_check, limit_check};
 ghost use Rattle.impl_table.specs.Reading.{is_version, group_of, is_formed};
 ghost use Rattle.impl_table.specs.Reading.{version_check, word_check, order_check, form_check};
-ghost use Rattle.impl_table.specs.inside.Lines.{Passes};
+ghost use Rattle.line_checks.specs.Answers.{MakesCheck};
 
 use crate::form::TableForm;
 use crate::reader::Declared;
@@ -12,7 +12,7 @@ use line_forms::{Keyword, ParsedLine};
 
 /// That a line is refused for a fault, where the check meets it.
 pub fn fault_if(met: bool, kind: Kind) -> Result<(), Refusal>
-    ensures { Passes (fault_check met kind) result }
+    ensures { MakesCheck (fault_check met kind) result }
 {
     if met {
         return Err(Refusal::Fault(kind));
@@ -22,7 +22,7 @@ pub fn fault_if(met: bool, kind: Kind) -> Result<(), Refusal>
 
 /// That a line passes a limit, where it does.
 pub fn limit_if(passed: bool, which: Which) -> Result<(), Refusal>
-    ensures { Passes (limit_check passed which) result }
+    ensures { MakesCheck (limit_check passed which) result }
 {
     if passed {
         return Err(Refusal::Limit(which));
@@ -52,28 +52,28 @@ fn group(head: Option<Keyword>) -> u8
 }
 
 /// Whether the first line is `table 1`.
-pub fn check_version(declared: &Declared, seen: &ParsedLine<TableForm>) -> Result<(), Refusal>
-    ensures { Passes (version_check declared.now seen.now) result }
+pub fn check_version(declared: &Declared, parsed: &ParsedLine<TableForm>) -> Result<(), Refusal>
+    ensures { MakesCheck (version_check declared.now parsed.now) result }
 {
     fault_if(
-        !declared.begun && !states_version(&seen.form),
+        !declared.begun && !states_version(&parsed.form),
         Kind::Version,
     )
 }
 
 /// Whether a later line begins with a word that begins lines.
-pub fn check_word(declared: &Declared, seen: &ParsedLine<TableForm>) -> Result<(), Refusal>
-    ensures { Passes (word_check declared.now seen.now) result }
+pub fn check_word(declared: &Declared, parsed: &ParsedLine<TableForm>) -> Result<(), Refusal>
+    ensures { MakesCheck (word_check declared.now parsed.now) result }
 {
-    fault_if(declared.begun && group(seen.head) == 0, Kind::NoSuchLine)
+    fault_if(declared.begun && group(parsed.head) == 0, Kind::NoSuchLine)
 }
 
 /// Whether a later line stands after no line of a later group.
-pub fn check_order(declared: &Declared, seen: &ParsedLine<TableForm>) -> Result<(), Refusal>
-    ensures { Passes (order_check declared.now seen.now) result }
+pub fn check_order(declared: &Declared, parsed: &ParsedLine<TableForm>) -> Result<(), Refusal>
+    ensures { MakesCheck (order_check declared.now parsed.now) result }
 {
     fault_if(
-        declared.begun && group(seen.head) < declared.group,
+        declared.begun && group(parsed.head) < declared.group,
         Kind::Misplaced,
     )
 }
@@ -91,8 +91,8 @@ fn is_formed(outputs: usize, form: &Option<TableForm>) -> bool
 }
 
 /// Whether the line's tokens derive from a form.
-pub fn check_form(declared: &Declared, seen: &ParsedLine<TableForm>) -> Result<(), Refusal>
-    ensures { Passes (form_check declared.now seen.now) result }
+pub fn check_form(declared: &Declared, parsed: &ParsedLine<TableForm>) -> Result<(), Refusal>
+    ensures { MakesCheck (form_check declared.now parsed.now) result }
 {
-    fault_if(!is_formed(declared.outputs.len(), &seen.form), Kind::Form)
+    fault_if(!is_formed(declared.outputs.len(), &parsed.form), Kind::Form)
 }

@@ -10,7 +10,7 @@ ghost use Rattle.impl_table.specs.inside.Runs.{IsWholeReply};
 
 use lin_form::Name;
 use line_forms::{
-    FormError, GuardForm, InputForm, Keyword, Lexeme, Line, LineForm, input_form, is_minus,
+    GuardForm, InputForm, Keyword, Lexeme, Line, LineForm, ParseError, input_form, is_minus,
     is_reserved, keyword_at, name_at, number_at, when_at,
 };
 use sqlite_items::Items;
@@ -131,54 +131,54 @@ fn output_form(line: &Line) -> Option<Name>
     Some(name)
 }
 
-fn state_form(alloc: Global, line: &Line) -> Result<StateForm, FormError>
+fn state_form(alloc: Global, line: &Line) -> Result<StateForm, ParseError>
     requires short { length line.now ≤ 1024 }
     requires key { Has line.now 0 (lexeme.Reserved word.State) }
     ensures { Derives (IsStateForm line.now) result }
 {
     let Some(name) = name_at(line, 1) else {
-        return Err(FormError::Form);
+        return Err(ParseError::Form);
     };
     if !is_reserved(line, 2, Keyword::Gives) {
-        return Err(FormError::Form);
+        return Err(ParseError::Form);
     }
     let (reply, end) = match reply(alloc, line, 3) {
         Ok(found) => found,
-        Err(_) => return Err(FormError::Memory),
+        Err(_) => return Err(ParseError::Memory),
     };
     if line.len() != end {
-        return Err(FormError::Form);
+        return Err(ParseError::Form);
     }
     Ok(StateForm { name, reply })
 }
 
-fn row_form(alloc: Global, line: &Line) -> Result<RowForm, FormError>
+fn row_form(alloc: Global, line: &Line) -> Result<RowForm, ParseError>
     requires short { length line.now ≤ 1024 }
     requires key { Has line.now 0 (lexeme.Reserved word.Row) }
     ensures { Derives (IsRowForm line.now) result }
 {
     let Some(from) = name_at(line, 1) else {
-        return Err(FormError::Form);
+        return Err(ParseError::Form);
     };
     let (guard, at) = match when_at(alloc, line, 2) {
         Ok(found) => found,
         Err(error) => return Err(error),
     };
     if !is_reserved(line, at, Keyword::Gives) {
-        return Err(FormError::Form);
+        return Err(ParseError::Form);
     }
     let (reply, end) = match reply(alloc, line, at + 1) {
         Ok(found) => found,
-        Err(_) => return Err(FormError::Memory),
+        Err(_) => return Err(ParseError::Memory),
     };
     if !is_reserved(line, end, Keyword::Go) {
-        return Err(FormError::Form);
+        return Err(ParseError::Form);
     }
     let Some(to) = name_at(line, end + 1) else {
-        return Err(FormError::Form);
+        return Err(ParseError::Form);
     };
     if line.len() != end + 2 {
-        return Err(FormError::Form);
+        return Err(ParseError::Form);
     }
     Ok(RowForm {
         from,
@@ -195,11 +195,11 @@ impl LineForm for TableForm {
 
     ghost Small = { IsSmallTableForm };
 
-    fn read(alloc: Global, line: &Line) -> Result<TableForm, FormError> {
+    fn read(alloc: Global, line: &Line) -> Result<TableForm, ParseError> {
         match keyword_at(line, 0) {
             Some(Keyword::Table) => match version_form(line) {
                 Some(version) => Ok(TableForm::Version(version)),
-                None => Err(FormError::Form),
+                None => Err(ParseError::Form),
             },
             Some(Keyword::Input) => match input_form(line) {
                 Ok(form) => Ok(TableForm::Input(form)),
@@ -207,7 +207,7 @@ impl LineForm for TableForm {
             },
             Some(Keyword::Output) => match output_form(line) {
                 Some(name) => Ok(TableForm::Output(name)),
-                None => Err(FormError::Form),
+                None => Err(ParseError::Form),
             },
             Some(Keyword::State) => match state_form(alloc, line) {
                 Ok(form) => Ok(TableForm::State(form)),
@@ -217,7 +217,7 @@ impl LineForm for TableForm {
                 Ok(form) => Ok(TableForm::Row(form)),
                 Err(error) => Err(error),
             },
-            _ => Err(FormError::Form),
+            _ => Err(ParseError::Form),
         }
     }
 

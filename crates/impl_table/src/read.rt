@@ -12,7 +12,7 @@ use crate::take::take;
 use chart_syntax::{ChartError, Kind, Refusal, at_line, token_error};
 use lin_form::{Input, Inputs, Name, Names, Signature};
 use line_checks::guards_fit;
-use line_forms::{InputForm, Signed, Viewer, small_seen};
+use line_forms::{InputForm, LineParser, Signed, small_parse};
 use std::alloc::{AllocError, Global};
 use text_lines::{LineError, TextError, TextReader, read_text};
 
@@ -77,7 +77,7 @@ fn table(alloc: Global, declared: Declared) -> Result<Table, AllocError>
 /// Reads a table.
 #[derive(Drop)]
 struct TableReader {
-    viewer: Viewer,
+    parser: LineParser,
     declared: Declared,
 }
 
@@ -99,14 +99,14 @@ impl TextReader for TableReader {
     ghost end = { end_check };
 
     fn take(&mut self, alloc: Global, line: &[u8]) -> Result<(), LineError<Refusal>> {
-        small_seen::<TableForm>();
+        small_parse::<TableForm>();
         guards_fit();
-        let seen = match self.viewer.see_form::<TableForm>(alloc, line) {
-            Ok(Some(seen)) => seen,
+        let parsed = match self.parser.parse::<TableForm>(alloc, line) {
+            Ok(Some(parsed)) => parsed,
             Ok(None) => return Ok(()),
             Err(error) => return Err(token_error(error)),
         };
-        take(alloc, &mut self.declared, &seen)
+        take(alloc, &mut self.declared, &parsed)
     }
 
     fn end(&self) -> Option<Refusal> {
@@ -132,7 +132,7 @@ pub fn read_table(alloc: Global, text: &[u8]) -> Result<Table, ChartError>
     ensures refused { IfErr result (IsRefusedBy (RefusesTable text.now)) }
 {
     let mut reader = TableReader {
-        viewer: Viewer::new(alloc),
+        parser: LineParser::new(alloc),
         declared: begin(alloc),
     };
     match read_text(alloc, text, &mut reader) {
@@ -143,7 +143,7 @@ pub fn read_table(alloc: Global, text: &[u8]) -> Result<Table, ChartError>
         Err(TextError::Memory) => return Err(ChartError::Memory),
     }
     let TableReader {
-        viewer: _,
+        parser: _,
         declared,
     } = reader;
     match table(alloc, declared) {

@@ -11,7 +11,8 @@ ghost use Rattle.impl_table.specs.Forms.{IsSmallReplyNumber, IsSmallTableForm};
 ghost use Rattle.impl_table.specs.Reading.{scope_of, when_check, state_check, state_of, is_formed, row_in};
 ghost use Rattle.impl_table.specs.Reading.{said_check, front_check, line_check, next, some_next};
 ghost use Rattle.impl_table.specs.Reading.{comparisons_check, names_check};
-ghost use Rattle.impl_table.specs.inside.Lines.{AreFew, Passes, Gives, Declares, Resolves};
+ghost use Rattle.line_checks.specs.Answers.{Gives, MakesCheck};
+ghost use Rattle.impl_table.specs.inside.Lines.{AreFew, Declares, Resolves};
 
 use crate::check::{check_form, check_order, check_version, check_word};
 use crate::form::{RowForm, StateForm, TableForm};
@@ -145,12 +146,7 @@ fn condition(
         return Ok(None);
     };
     let inputs = declared.inputs.as_slice();
-    match resolved(
-        alloc,
-        &InputNames { inputs },
-        inputs.len(),
-        guard.condition(),
-    ) {
+    match resolved(alloc, &InputNames { inputs }, inputs.len(), guard.tree()) {
         Ok(guard) => Ok(Some(Condition::new(guard))),
         Err(Unresolved::Fault(_)) => Err(fault(Kind::Unknown)),
         Err(Unresolved::Memory) => Err(LineError::Memory),
@@ -186,12 +182,12 @@ fn row(alloc: Global, declared: &Declared, form: &RowForm) -> Result<Row, LineEr
 
 /// Whether the line's guard has at most 64 comparisons.
 fn check_comparisons(form: &RowForm) -> Result<(), Refusal>
-    ensures { Passes (comparisons_check (says.Row form.now)) result }
+    ensures { MakesCheck (comparisons_check (says.Row form.now)) result }
 {
     let Some(guard) = &form.guard else {
         return Ok(());
     };
-    match comparisons_left(guard.condition(), MOST_COMPARISONS) {
+    match comparisons_left(guard.tree(), MOST_COMPARISONS) {
         Some(_) => Ok(()),
         None => Err(Refusal::Limit(Which::Comparisons)),
     }
@@ -250,39 +246,39 @@ fn take_said(
 }
 
 /// Makes the checks of a line that come before those of what it says.
-fn check(declared: &Declared, seen: &ParsedLine<TableForm>) -> Result<(), Refusal>
-    ensures { Passes (front_check declared.now seen.now) result }
+fn check(declared: &Declared, parsed: &ParsedLine<TableForm>) -> Result<(), Refusal>
+    ensures { MakesCheck (front_check declared.now parsed.now) result }
 {
-    match check_version(declared, seen) {
+    match check_version(declared, parsed) {
         Ok(()) => {}
         Err(refusal) => return Err(refusal),
     }
-    match check_word(declared, seen) {
+    match check_word(declared, parsed) {
         Ok(()) => {}
         Err(refusal) => return Err(refusal),
     }
-    match check_order(declared, seen) {
+    match check_order(declared, parsed) {
         Ok(()) => {}
         Err(refusal) => return Err(refusal),
     }
-    check_form(declared, seen)
+    check_form(declared, parsed)
 }
 
 /// Makes the checks of a line in their order, and takes what it declares.
 pub fn take(
     alloc: Global,
     declared: &mut Declared,
-    seen: &ParsedLine<TableForm>,
+    parsed: &ParsedLine<TableForm>,
 ) -> Result<(), LineError<Refusal>>
     requires few { AreFew declared.old }
-    requires small { ForSome seen.now.form IsSmallTableForm }
-    ensures { Declares (line_check declared.old seen.now) (some_next declared.old seen.now.form) declared.new result }
+    requires small { ForSome parsed.now.form IsSmallTableForm }
+    ensures { Declares (line_check declared.old parsed.now) (some_next declared.old parsed.now.form) declared.new result }
 {
-    match check(declared, seen) {
+    match check(declared, parsed) {
         Ok(()) => {}
         Err(refusal) => return Err(LineError::Refused(refusal)),
     }
-    match &seen.form {
+    match &parsed.form {
         Some(said) => take_said(alloc, declared, said),
         None => Ok(()),
     }

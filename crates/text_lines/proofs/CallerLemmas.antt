@@ -104,7 +104,7 @@ decided Step end Is Kept start text one some begun keeps same exists = record {
 -- a line is taken in one way, where it is one thing and one check's answer meets it
 pub one_step : {S V K : Type 0} (Is : List ℕ → V → Type 0) (Checks : S → V → Option K → Type 0) (next : S → V → S)
     → ((line : List ℕ) (a b : V) → Is line a → Is line b → a ≡ b)
-    → ((s : S) (view : V) (a b : Option K) → Checks s view a → Checks s view b → a ≡ b) → HasOne (StepBy Is Checks next)
+    → ((s : S) (parsed : V) (a b : Option K) → Checks s parsed a → Checks s parsed b → a ≡ b) → HasOne (StepBy Is Checks next)
 one_step Is Checks next one check s line (Ok t) (Ok u) p q = let e = one line p.0 q.0 p.1 q.1 in let h : t ≡ u = p.3 ∙ ap (next s) e ∙ sym q.3 in λ j. Ok (h j)
 one_step Is Checks next one check s line (Ok t) (Err k) p q =
     let e = one line q.0 p.0 q.1 p.1 in
@@ -117,13 +117,13 @@ one_step Is Checks next one check s line (Err j) (Err k) p q =
     let h = some_same j k (check s p.0 (Some j) (Some k) p.2 (subst (λ v. Checks s v (Some k)) e q.2)) in
     λ i. Err (h i)
 
-at_check : {S V K : Type 0} (Is : List ℕ → V → Type 0) (Checks : S → V → Option K → Type 0) (next : S → V → S) (s : S) (line : List ℕ) (view : V)
-    (o : Option K) → Is line view → Checks s view o
+at_check : {S V K : Type 0} (Is : List ℕ → V → Type 0) (Checks : S → V → Option K → Type 0) (next : S → V → S) (s : S) (line : List ℕ) (parsed : V)
+    (o : Option K) → Is line parsed → Checks s parsed o
     → ((a : Result S K) → StepBy Is Checks next s line a → ⊥) → ⊥
-at_check Is Checks next s line view None is c none = none (Ok (next s view)) (view, is, c, refl)
-at_check Is Checks next s line view (Some k) is c none = none (Err k) (view, is, c)
+at_check Is Checks next s line parsed None is c none = none (Ok (next s parsed)) (parsed, is, c, refl)
+at_check Is Checks next s line parsed (Some k) is c none = none (Err k) (parsed, is, c)
 
 pub some_step : {S V K : Type 0} (Is : List ℕ → V → Type 0) (Checks : S → V → Option K → Type 0) (next : S → V → S)
     → ((line : List ℕ) → ((a : V) → Is line a → ⊥) → ⊥)
-    → ((s : S) (view : V) → ((a : Option K) → Checks s view a → ⊥) → ⊥) → HasSome (StepBy Is Checks next)
-some_step Is Checks next some check s line none = some line (λ view is. check s view (λ o c. at_check Is Checks next s line view o is c none))
+    → ((s : S) (parsed : V) → ((a : Option K) → Checks s parsed a → ⊥) → ⊥) → HasSome (StepBy Is Checks next)
+some_step Is Checks next some check s line none = some line (λ parsed is. check s parsed (λ o c. at_check Is Checks next s line parsed o is c none))

@@ -39,12 +39,12 @@ pub record IsDecided {X K : Type 0} (IsReading : X → Type 0) (IsRefusal : ℕ 
   pub apart : (x : X) (n : ℕ) (k : K) → IsReading x → IsRefusal n k → ⊥
   pub some : ((x : X) → IsReading x → ⊥) → ((n : ℕ) (k : K) → IsRefusal n k → ⊥) → ⊥
 
--- a line's outcomes, where they are told by what is seen of it: the check that meets it, or the next state where
+-- a line's outcomes, where they are told by what it is parsed as: the check that meets it, or the next state where
 -- none does
 abbrev pub StepBy : {S V K : Type 0} → (List ℕ → V → Type 0) → (S → V → Option K → Type 0) → (S → V → S)
     → S → List ℕ → Result S K → Type 0
-StepBy {V = V} Is Checks next s line (Ok t) = (view : V) × Is line view × Checks s view None × (t ≡ next s view)
-StepBy {V = V} Is Checks next s line (Err k) = (view : V) × Is line view × Checks s view (Some k)
+StepBy {V = V} Is Checks next s line (Ok t) = (parsed : V) × Is line parsed × Checks s parsed None × (t ≡ next s parsed)
+StepBy {V = V} Is Checks next s line (Err k) = (parsed : V) × Is line parsed × Checks s parsed (Some k)
 
 -- what a function answers that takes a line: it is taken, or this refuses it, or there was no memory
 abbrev pub Takes : {S K : Type 0} → (S → List ℕ → Result S K → Type 0)

@@ -1,5 +1,5 @@
 -- What is kept from line to line, what a line adds, and what a check tells.
-use Rattle.std.specs.Prelude.{◌≡◌, List, length, Option, Some, None, Result, Ok, Err}
+use Rattle.std.specs.Prelude.{◌≡◌, length, Option, Some, None, Result, Ok, Err}
 use Rattle.lin_form.specs.declared.form.Comparison.{Comparison}
 use Rattle.lin_form.specs.declared.signature.Signature.{Signature}
 use Rattle.chart_model.specs.Cuts.{IsCut, AreCuts}

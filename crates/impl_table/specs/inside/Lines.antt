@@ -1,5 +1,5 @@
 -- What is kept from line to line, and what functions answer that check and take what a line says.
-use Rattle.std.specs.Prelude.{◌≡◌, ℕ, ◌<◌, ◌≤◌, List, length, Option, Some, None, Result, Ok, Err}
+use Rattle.std.specs.Prelude.{◌≡◌, ℕ, ◌<◌, ◌≤◌, length, Option, Some, None, Result, Ok, Err}
 use Rattle.std.specs.List.{All}
 use Rattle.std.specs.Option.{ForSome}
 use Rattle.lin_form.specs.Range.{IsRange}
@@ -36,23 +36,14 @@ pub record IsPartial (s : Declared) : Type 0 where
 abbrev pub IsReadableRow : ℕ → Row → Type 0
 IsReadableRow numbers row = ForSome row.guard (IsReadableGuard numbers)
 
--- what a function answers that makes one check
-abbrev pub Passes : Option Refusal → Result (Unit {0}) Refusal → Type 0
-Passes check (Ok u) = check ≡ None
-Passes check (Err refusal) = check ≡ Some refusal
-
--- what a function answers that looks a part of a line up: it passes and this is its content, or what refuses it
-abbrev pub Gives : {T : Type 0} → Option Refusal → T → Result T Refusal → Type 0
-Gives check content (Ok x) = (check ≡ None) × (x ≡ content)
-Gives check content (Err refusal) = check ≡ Some refusal
-
 -- what a function answers that checks what a line says and takes it: it passes and this is declared, or what refuses it
 abbrev pub Declares : Option Refusal → Declared → Declared → Result (Unit {0}) (LineError Refusal) → Type 0
 Declares check after new (Ok u) = (check ≡ None) × (new ≡ after)
 Declares check after new (Err (line_error.Refused refusal)) = check ≡ Some refusal
 Declares check after new (Err line_error.Memory) = Unit {0}
 
--- the same where memory is taken: it passes and this is its content, or what refuses it
+-- what a function answers that resolves a part of a line and takes memory: it passes and this is its content, or what
+-- refuses it
 abbrev pub Resolves : {T : Type 0} → Option Refusal → T → Result T (LineError Refusal) → Type 0
 Resolves check content (Ok x) = (check ≡ None) × (x ≡ content)
 Resolves check content (Err (line_error.Refused refusal)) = check ≡ Some refusal

@@ -1,5 +1,5 @@
 -- What the readers of parts of a line answer.
-use Rattle.std.specs.Prelude.{◌≡◌, ℕ, ◌+◌, ◌≤◌, List, length}
+use Rattle.std.specs.Prelude.{◌≡◌, ℕ, ◌+◌, List}
 use Rattle.line_forms.specs.declared.lexeme.Lexeme.{Lexeme}
 use Rattle.impl_table.specs.declared.form.ReplyNumber.{ReplyNumber}
 use Rattle.impl_table.specs.Forms.{IsReplyNumber, IsReply, reply_size}

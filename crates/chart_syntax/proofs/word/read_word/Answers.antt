@@ -1,4 +1,4 @@
-use Rattle.std.proofs.Common.{◌≡◌, ℤ, List, refl, subst}
+use Rattle.std.proofs.Common.{ℤ, List, refl, subst}
 use Rattle.text_lines.specs.Lines.{lines_of}
 use Rattle.text_lines.specs.Reading.{Leads}
 use Rattle.chart_syntax.specs.Words.{WordState, TakesVector}

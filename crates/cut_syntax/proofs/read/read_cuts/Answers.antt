@@ -1,4 +1,4 @@
-use Rattle.std.proofs.Common.{◌≡◌, List, false, refl, sym, ◌∙◌, subst}
+use Rattle.std.proofs.Common.{List, false, sym, subst}
 use Rattle.lin_form.specs.declared.form.Comparison.{Comparison}
 use Rattle.text_lines.specs.Lines.{lines_of}
 use Rattle.text_lines.specs.Reading.{Leads}

@@ -1,4 +1,4 @@
-use Rattle.std.proofs.Common.{◌≡◌, drop, length}
+use Rattle.std.proofs.Common.{◌≡◌, drop}
 use Rattle.impl_table.specs.Fitting.{first_output}
 use Rattle.impl_table.proofs.fit.fit_outputs.Given as goal
 

@@ -1,6 +1,5 @@
-use Rattle.std.proofs.Common.{◌≡◌, sym, ◌∙◌}
-use Rattle.std.specs.Prelude.{Result, Ok, Err, IfOk, IfErr}
-use Rattle.impl_table.specs.Fitting.{inputs_difference, outputs_difference}
+use Rattle.std.proofs.Common.{sym, ◌∙◌}
+use Rattle.impl_table.specs.Fitting.{inputs_difference}
 use Rattle.impl_table.proofs.Differences.{fits_after, unfit_after, unfit_inputs}
 use Rattle.impl_table.proofs.fit.fits.Goals as goal
 

@@ -1,6 +1,7 @@
-use Rattle.std.proofs.Common.{◌≡◌, refl, sym, ◌∙◌}
-use Rattle.text_lines.proofs.CallerLemmas.{decided, one_step, some_step}
-use Rattle.impl_table.specs.Reading.{IsContent, IsTableView, TakesRow, end_check, next_view, start, view_check}
+use Rattle.text_lines.proofs.CallerLemmas.{decided}
+use Rattle.chart_syntax.proofs.CallerLemmas.{one_taken, some_taken}
+use Rattle.impl_table.specs.Forms.{IsTableForm}
+use Rattle.impl_table.specs.Reading.{IsContent, TakesRow, end_check, line_check, some_next, start}
 use Rattle.impl_table.specs.inside.Lines.{IsPartial}
 use Rattle.impl_table.proofs.Keeping.{keeps, nothing_read}
 use Rattle.impl_table.proofs.Whole.{exists, same_table}
@@ -9,6 +10,6 @@ use Rattle.impl_table.proofs.laws.table_or_refusal.Goals as goal
 pub returns : goal.returns
 returns c = λ text.
     decided TakesRow end_check IsContent IsPartial start text
-    (one_step IsTableView (λ s view check. view_check s view ≡ check) next_view c.one_seen.ensures (λ s view a b p q. sym p ∙ q))
-    (some_step IsTableView (λ s view check. view_check s view ≡ check) next_view c.some_seen.ensures (λ s view none. none (view_check s view) refl))
-    nothing_read (keeps c.small_seen.ensures c.guards_fit.ensures) same_table exists
+    (one_taken IsTableForm line_check (λ s parsed. some_next s parsed.form) c.one_parse.ensures)
+    (some_taken IsTableForm line_check (λ s parsed. some_next s parsed.form) c.some_parse.ensures)
+    nothing_read (keeps c.small_parse.ensures c.guards_fit.ensures) same_table exists

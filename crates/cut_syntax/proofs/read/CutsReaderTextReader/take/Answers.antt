@@ -1,8 +1,15 @@
 use Rattle.std.proofs.Common.{rules, ◌≡◌, true, [], ◌∷◌, ◌++◌, sym, subst}
+use Rattle.std.specs.Prelude.{Ok}
+use Rattle.line_forms.specs.CutForms.{IsCutsForm}
+use Rattle.line_forms.specs.Parsing.{AreParsed, IsParsed}
 use Rattle.cut_syntax.specs.Cuts.{CutsState}
 use Rattle.cut_syntax.specs.inside.Lines.{IsOver, AreRead}
 use Rattle.cut_syntax.proofs.Keeping.{one_more}
 use Rattle.cut_syntax.proofs.read.CutsReaderTextReader.take.Goals as goal
+
+pub added-requires : goal.added-requires
+added-requires c = c.small_parse.ensures c.args.line.now c.in-Ok-Some.parsed
+    (subst (λ parsed. IsParsed (AreParsed IsCutsForm) c.args.line.now (Ok parsed)) c.in-Ok-Some.field-0-is c.in-Ok-Some.ensures)
 
 pub returns-clause-kept : goal.returns-clause-kept
 returns-clause-kept c =

@@ -1,5 +1,5 @@
-use Rattle.std.proofs.Common.{◌≡◌, ap}
-use Rattle.std.specs.Prelude.{Option, None, false}
+use Rattle.std.proofs.Common.{ap}
+use Rattle.std.specs.Prelude.{Option, false}
 use Rattle.line_forms.specs.declared.statement.InputForm.{InputForm}
 use Rattle.line_checks.specs.declared.scope.Variable.{Variable}
 use Rattle.line_checks.specs.Names.{use_check}
