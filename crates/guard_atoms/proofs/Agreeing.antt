@@ -131,10 +131,15 @@ answered : (chart : Chart) (x y : List ℤ) → ((c : Configuration) → IsConfi
 answered chart x y same [] v c is = λ i. (same c is i).outputs ∷ answer_from (plan_of_chart chart) (same c is i) v
 answered chart x y same (a ∷ u) v c is = λ i. reply_of chart c a ∷ answered chart x y same u v (next_of chart c a) (IsConfiguration-next chart c a is) i
 
+-- vectors with one pattern lead to the same configuration
+pub next_of-patterns : (chart : Chart) (cuts : List Comparison) (atoms : List Atom) (c : Configuration) (x y : List ℤ) → map inequality_of atoms ≡ atoms_in chart cuts → pattern_of atoms x ≡ pattern_of atoms y → IsConfiguration chart c → next_of chart c x ≡ next_of chart c y
+next_of-patterns chart cuts atoms c x y are e is =
+    next_of-atoms chart cuts c x y is (subst (All (Alike x y)) are (All-from_recursion (Alike x y) (map inequality_of atoms) (patterned atoms x y e)))
+
 -- vectors with one pattern act alike
 pub patterns-alike : (chart : Chart) (cuts : List Comparison) (atoms : List Atom) (s : VectorSet) (x y : List ℤ) → map inequality_of atoms ≡ atoms_in chart cuts → pattern_of atoms x ≡ pattern_of atoms y → ActsLike s (plan_of_chart chart) x y
 patterns-alike chart cuts atoms s x y are e u v is_u is_v =
-    answered chart x y (λ c is. next_of-atoms chart cuts c x y is (subst (All (Alike x y)) are (All-from_recursion (Alike x y) (map inequality_of atoms) (patterned atoms x y e)))) u v (start_of chart) (IsConfiguration-start chart)
+    answered chart x y (λ c is. next_of-patterns chart cuts atoms c x y are e is) u v (start_of chart) (IsConfiguration-start chart)
 
 -- so do the members of a class
 pub members-alike : (chart : Chart) (cuts : List Comparison) (r : Partition) (s : VectorSet) → map inequality_of r.atoms ≡ atoms_in chart cuts → MembersActAlike s r (plan_of_chart chart)

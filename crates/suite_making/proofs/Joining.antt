@@ -9,9 +9,11 @@ use Rattle.concretise.specs.Concrete.{AreSuiteWords, AreWordsFor}
 use Rattle.fsm_core.specs.Machine.{IsMachine, IsWord, Machine}
 use Rattle.input_classes.specs.declared.class.Class.{Class}
 use Rattle.input_classes.specs.Partition.{Covers, Partition}
+use Rattle.input_classes.specs.VectorSet.{VectorSet}
 use Rattle.subject.specs.Alike.{HasRank, MembersActAlike}
 use Rattle.subject.specs.Domain.{box}
 use Rattle.subject.specs.Meaning.{Meaning}
+use Rattle.subject.proofs.CallerLemmas.{rank_within}
 use Rattle.subject.proofs.FromShape.{marks_are_letters, product_letters}
 use Rattle.suite_build.specs.Steps.{steps}
 use Rattle.suite_words.specs.Cover.{AreLetters}
@@ -19,7 +21,7 @@ use Rattle.suite_words.specs.Tests.{AreTests, IsLongest, IsProduct}
 use Rattle.charset.specs.Marks.{answer_after}
 use Rattle.word_pool.specs.Words.{word, words_at, IsProperPrefix}
 use Rattle.word_pool.proofs.CallerLemmas.{word_at}
-use Rattle.suite_making.specs.Making.{HasTooManyStates, IsAllowed, IsRefused}
+use Rattle.suite_making.specs.Making.{HasTooManyStates, IsAllowed, IsRefused, IsLeastAllowed, IsLeastRefused}
 use Rattle.suite_making.specs.declared.error.MakeError.{MakeError}
 use Rattle.suite_making.specs.declared.error.MakeError.TheVariants.{TooManyConfigurations, BoundBelow, TooManySteps, Memory}
 use Rattle.suite_making.specs.inside.Refusals.{AreWordsRefused, IsMachineRefused}
@@ -89,11 +91,44 @@ module _ (g : Machine) (bound : ℕ) (ws : List (List ℕ)) (cs ms ts : List ℕ
     prefixes = w.prefixes;
   }
 
+-- there is one rank
+pub one_rank : {S : Type 0} (s : VectorSet) (m : Meaning S) (k n : ℕ) → HasRank s m k → HasRank s m n → k ≡ n
+one_rank s m k n first second =
+    let up = rank_within m s s (λ w h. h) k n first second.most in
+    let down = rank_within m s s (λ w h. h) n k second first.most in
+    omega arith
+
+-- a suite for a bound that is the rank is one for the least bound
+pub least_allowed : {S : Type 0} (m : Meaning S) (r : Partition) (bound : ℕ) → HasRank (box m r) m bound → IsAllowed m r bound → IsLeastAllowed m r
+least_allowed m r bound is h =
+    let same : h.states ≡ bound = one_rank (box m r) m h.states bound h.rank is in
+    record {
+      few = h.few;
+      states = bound;
+      rank = is;
+      few_steps = subst (λ n. steps n (length r.classes) bound ≤ 20000000) same h.few_steps;
+    }
+
+pub least_refused : {S : Type 0} (m : Meaning S) (r : Partition) (bound : ℕ) → HasRank (box m r) m bound → (e : MakeError) → IsRefused m r bound e → IsLeastRefused m r e
+least_refused m r bound is TooManyConfigurations h = h
+least_refused m r bound is (BoundBelow n) h =
+    let same : n ≡ bound = one_rank (box m r) m n bound h.rank is in
+    absurd (omega (arith, same, h.below))
+least_refused m r bound is TooManySteps h =
+    let same : h.states ≡ bound = one_rank (box m r) m h.states bound h.rank is in
+    record {
+      few = h.few;
+      states = bound;
+      rank = is;
+      many = subst (λ n. 20000000 < steps n (length r.classes) bound) same h.many;
+    }
+least_refused m r bound is Memory h = h
+
 module _ {S : Type 0} (m : Meaning S) (r : Partition) (g : Machine) (a : IsAbstractionOf r m g) (covers : Covers (box m r) r) (alike : MembersActAlike (box m r) r m) where
   pub letters : g.letters ≡ length r.classes
   letters = a.reduced.letters ∙ a.explored.letters ∙ length-map r.classes (λ (c : Class). c.witness)
 
-  rank : HasRank (box m r) m g.states
+  pub rank : HasRank (box m r) m g.states
   rank = rank_over_all r m g a (box m r) covers alike
 
   pub words_for : (bound : ℕ) (ws : List (List ℕ)) (cs ms ts : List ℕ) → g.states ≤ bound → AreWordsOf g bound ws cs ms ts →

@@ -28,6 +28,13 @@ pub record HasTooManySteps {S : Type 0} (m : Meaning S) (r : Partition) (bound :
   pub within : states ≤ bound
   pub many : 20000000 < steps states (length r.classes) bound
 
+-- the same for the least bound, the rank
+pub record HasTooManyLeastSteps {S : Type 0} (m : Meaning S) (r : Partition) : Type 0 where
+  pub few : HasTooManyStates m r → ⊥
+  pub states : ℕ
+  pub rank : HasRank (box m r) m states
+  pub many : 20000000 < steps states (length r.classes) states
+
 -- none of these
 pub record IsAllowed {S : Type 0} (m : Meaning S) (r : Partition) (bound : ℕ) : Type 0 where
   pub few : HasTooManyStates m r → ⊥
@@ -36,9 +43,23 @@ pub record IsAllowed {S : Type 0} (m : Meaning S) (r : Partition) (bound : ℕ) 
   pub within : states ≤ bound
   pub few_steps : steps states (length r.classes) bound ≤ 20000000
 
+-- there is a suite for the least bound
+pub record IsLeastAllowed {S : Type 0} (m : Meaning S) (r : Partition) : Type 0 where
+  pub few : HasTooManyStates m r → ⊥
+  pub states : ℕ
+  pub rank : HasRank (box m r) m states
+  pub few_steps : steps states (length r.classes) states ≤ 20000000
+
 -- the cause of an error
 abbrev pub IsRefused : {S : Type 0} → Meaning S → Partition → ℕ → MakeError → Type 0
 IsRefused m r bound TooManyConfigurations = HasTooManyStates m r
 IsRefused m r bound (BoundBelow n) = IsBoundBelow m r bound n
 IsRefused m r bound TooManySteps = HasTooManySteps m r bound
 IsRefused m r bound Memory = Unit {0}
+
+-- the cause of an error where the bound is the least
+abbrev pub IsLeastRefused : {S : Type 0} → Meaning S → Partition → MakeError → Type 0
+IsLeastRefused m r TooManyConfigurations = HasTooManyStates m r
+IsLeastRefused m r (BoundBelow n) = ⊥
+IsLeastRefused m r TooManySteps = HasTooManyLeastSteps m r
+IsLeastRefused m r Memory = Unit {0}

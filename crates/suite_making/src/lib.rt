@@ -7,4 +7,4 @@ mod making;
 mod words;
 
 pub use error::MakeError;
-pub use making::make_suite;
+pub use making::{LeastSuite, make_least_suite, make_suite};

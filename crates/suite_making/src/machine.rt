@@ -3,7 +3,7 @@ ghost use Rattle.input_classes.specs.Partition.{witnesses};
 ghost use Rattle.input_classes.specs.VectorSet.{Members};
 ghost use Rattle.lin_form.specs.Signature.{ranges_of};
 ghost use Rattle.abstract_machine.specs.Abstraction.{IsAbstractionOf};
-ghost use Rattle.abstract_machine.specs.Reached.{ReachesMore};
+ghost use Rattle.abstract_machine.specs.Reached.{ReachesExactly, ReachesMore};
 ghost use Rattle.suite_making.specs.inside.Refusals.{IsMachineRefused};
 
 use crate::MakeError;
@@ -14,17 +14,33 @@ use reduction::reduce;
 use std::alloc::Global;
 use subject::Plan;
 
-/// The reduced machine of a plan, whose letters are the classes.
-pub fn machine_of<P: Plan>(alloc: Global, plan: &P, partition: &Partition) -> Result<Fsm, MakeError>
+/// The reduced machine of a plan, whose letters are the classes, and how many states the plan reaches on the witnesses.
+#[derive(Drop)]
+pub struct Abstracted {
+    pub fsm: Fsm,
+    pub configurations: usize,
+}
+
+/// The reduced machine of a plan.
+pub fn machine_of<P: Plan>(
+    alloc: Global,
+    plan: &P,
+    partition: &Partition,
+) -> Result<Abstracted, MakeError>
     requires ranges { partition.now.ranges ≡ ranges_of (P.plan plan.now).signature.inputs }
-    ensures machine { IfOk result (λ g. IsAbstractionOf partition.now (P.plan plan.now) g) }
+    ensures machine { IfOk result (λ a. IsAbstractionOf partition.now (P.plan plan.now) a.fsm) }
+    ensures configurations { IfOk result (λ a. ReachesExactly a.configurations (Members (witnesses partition.now))
+        (P.plan plan.now)) }
     ensures few { OnOk result (ReachesMore 1024 (Members (witnesses partition.now)) (P.plan plan.now) → ⊥) }
     ensures refused { IfErr result (IsMachineRefused (P.plan plan.now) partition.now) }
 {
     match explore(alloc, plan, partition) {
         Ok(explored) => {
             let reduced = reduce(alloc, &explored.fsm)?;
-            Ok(reduced.fsm)
+            Ok(Abstracted {
+                fsm: reduced.fsm,
+                configurations: explored.configurations,
+            })
         }
         Err(ExploreError::TooManyConfigurations) => Err(MakeError::TooManyConfigurations),
         Err(ExploreError::Memory) => Err(MakeError::Memory),

@@ -9,7 +9,8 @@ use Rattle.input_classes.specs.Partition.{witnesses}
 use Rattle.input_classes.specs.VectorSet.{VectorSet, IsIn, Word, IsWordOf, box_of}
 use Rattle.suite_words.specs.Cover.{IsFirstOfItsKind, IsCoverBy}
 use Rattle.subject.specs.Alike.{LeadAlike, HasAtMost, HasRank, IsListed}
-use Rattle.subject.specs.Meaning.{Meaning}
+use Rattle.subject.specs.Meaning.{LeadsTo, Meaning}
+use Rattle.abstract_machine.specs.Reached.{AreAllReached, ReachesExactly}
 use Rattle.subject.specs.Shape.{LeadAlikeBy, HasShape}
 use Rattle.subject.specs.Suite.{SuiteParts, in_vectors}
 use Rattle.class_stages.proofs.Proper.{made_of}
@@ -43,6 +44,21 @@ rank s t m n f g h = record {
   many = h.many;
   apart = λ i j d less inside alike. h.apart i j d less inside (lead t s m f (get_or h.words i d) (get_or h.words j d) alike);
 }
+
+led : {S : Type 0} (s t : VectorSet) (m : Meaning S) → Has s t → (x : S) → LeadsTo s m x → LeadsTo t m x
+led s t m f x l = record { word = l.word; is_word = word s t f l.word l.is_word; leads = l.leads }
+
+reached : {S : Type 0} (s t : VectorSet) (m : Meaning S) → Has s t → Has t s → (xs : List S) → AreAllReached s m xs → AreAllReached t m xs
+reached s t m f g xs h = record {
+  are_reached = record {
+    reached = All-weaker (LeadsTo s m) (LeadsTo t m) (led s t m f) xs h.are_reached.reached;
+    different = h.are_reached.different;
+  };
+  each = λ x l. h.each x (led t s m g x l);
+}
+
+pub reaches : {S : Type 0} (s t : VectorSet) (m : Meaning S) (n : ℕ) → Has s t → Has t s → ReachesExactly n s m → ReachesExactly n t m
+reaches s t m n f g h = record { states = h.states; are_all = reached s t m f g h.states h.are_all; number = h.number }
 
 cover : (c : ℕ) (A B : List ℕ → List ℕ → Type 0) (words : List (List ℕ)) → ((u w : List ℕ) → A u w → B u w) → ((u w : List ℕ) → B u w → A u w) → IsCoverBy c A words → IsCoverBy c B words
 cover c A B words to from h = record {

@@ -1,3 +1,4 @@
 pub mod Boxes
+pub mod Reaching
 pub mod Suiting
 pub mod Proper

@@ -4,5 +4,5 @@
 mod making;
 mod printing;
 
-pub use making::suite_over;
+pub use making::{least_suite_over, suite_over};
 pub use printing::SuiteLines;

@@ -2,7 +2,7 @@ ghost use Rattle.std.specs.Prelude.{◌≡◌, ◌≤◌, List};
 ghost use Rattle.lin_form.specs.declared.form.Comparison.{Comparison};
 ghost use Rattle.command_stages.specs.Stage.{Makes};
 ghost use Rattle.class_stages.specs.Classes.{IsChartPartition};
-ghost use Rattle.suite_stages.specs.Suites.{SuiteOver};
+ghost use Rattle.suite_stages.specs.Suites.{SuiteOver, LeastSuiteOver};
 ghost use Rattle.suite_stages.specs.inside.Stops.{stop_of_make};
 
 use chart_meaning::{ChartPlan, configurations_go_on};
@@ -10,7 +10,7 @@ use class_split::Partition;
 use command_stages::{Departure, Quantity, Refusal, Stop};
 use guard_atoms::members_act_alike;
 use std::alloc::Global;
-use suite_making::{MakeError, make_suite};
+use suite_making::{LeastSuite, MakeError, make_least_suite, make_suite};
 use suite_model::Suite;
 
 fn stop_of_make(bound: usize, error: MakeError) -> Stop
@@ -42,5 +42,22 @@ pub fn suite_over(
     match make_suite(alloc, plan, partition, bound) {
         Ok(suite) => Ok(suite),
         Err(error) => Err(stop_of_make(bound, error)),
+    }
+}
+
+/// The suite of a chart's plan and its classes for the least bound, and how many configurations the plan reaches.
+pub fn least_suite_over(
+    alloc: Global,
+    plan: &ChartPlan,
+    partition: &Partition,
+) -> Result<LeastSuite, Stop>
+    requires { (cuts : List Comparison) × IsChartPartition plan.now cuts partition.now }
+    ensures { Makes (LeastSuiteOver plan.now partition.now) result }
+{
+    configurations_go_on();
+    members_act_alike();
+    match make_least_suite(alloc, plan, partition) {
+        Ok(least) => Ok(least),
+        Err(error) => Err(stop_of_make(0, error)),
     }
 }
