@@ -7,6 +7,7 @@ mod classes;
 mod edges;
 mod failing;
 mod faults;
+mod gens;
 mod order;
 mod replays;
 mod runs;

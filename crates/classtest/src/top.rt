@@ -15,6 +15,7 @@ use command_answers::suite::suite;
 use command_meaning::texts_show;
 use command_stages::{Stop, finish, report};
 use command_words::{Command, command_of};
+use gen_stages::summary_of;
 use std::alloc::Global;
 use test_world::{Shelf, Sink};
 
@@ -42,6 +43,7 @@ fn serve<F: Shelf, K: Sink>(
         Some(Command::Run { bound, cuts }) => finish(run(alloc, words, bound, cuts, shelf), out),
         Some(Command::Json { bound, cuts }) => finish(json(alloc, words, bound, cuts, shelf), out),
         Some(Command::Replay) => finish(replay(alloc, words, shelf), out),
+        Some(Command::Gen { number }) => finish(summary_of(alloc, number), out),
     }
 }
 

@@ -2,7 +2,7 @@
 use Rattle.std.proofs.Common.{◌≡◌, ℕ, Bool, true, List, Option, Some, None, Err, refl, sym, ◌∙◌, subst, inl, inr}
 use Rattle.std.specs.Prelude.{IsSome}
 use Rattle.command_words.specs.declared.command.Command.{Command}
-use Rattle.command_words.specs.declared.command.Command.TheVariants.{Play, Classes, Suite, Run, Json, Replay}
+use Rattle.command_words.specs.declared.command.Command.TheVariants.{Play, Classes, Suite, Run, Json, Replay, Gen}
 use Rattle.command_words.specs.Command.{command_of}
 use Rattle.command_stages.specs.declared.stop.Source.{Source}
 use Rattle.command_stages.specs.declared.stop.Departure.TheVariants.{Unread}
@@ -22,6 +22,8 @@ use Rattle.run_stages.proofs.Proper.{Tables, Verdicts, implementation_proper, fi
 use Rattle.judge_stages.specs.Verdicts.{Printing, verdict_lines}
 use Rattle.judge_stages.proofs.Proper.{judge_proper, judge_by_proper, prints_proper}
 use Rattle.verdict_report.specs.Json.{json_text}
+use Rattle.gen_stages.specs.Summary.{SummaryOf}
+use Rattle.gen_stages.proofs.Proper.{summary_proper}
 use Rattle.command_answers.specs.Ends.{PlayEnds, ClassesEnds, SuiteEnds, RunEnds, ReplayEnds, AnswersCommand, Answers, MayRead, MayReadRun, IsNamed}
 
 -- each text has at most one reading or refusal, as a chart, as a word over a chart, as cuts over a signature, as a table and
@@ -70,6 +72,7 @@ one_command texts (Some (Suite bound named)) given told s t x y d e p q = whole_
 one_command texts (Some (Run bound named)) given told s t x y d e p q = whole_one (MayReadRun named) (RunEnds verdict_lines bound named) (run_ends_proper texts verdict_lines bound named) given told s t x y d e p q
 one_command texts (Some Replay) given told s t x y d e p q = whole_one (MayRead Replay) ReplayEnds (replay_ends_proper texts) given told s t x y d e p q
 one_command texts (Some (Json bound named)) given told s t x y d e p q = whole_one (MayReadRun named) (RunEnds json_text bound named) (run_ends_proper texts json_text bound named) given told s t x y d e p q
+one_command texts (Some (Gen number)) given told s t x y d e p q = whole_one (MayRead (Gen number)) (SummaryOf number) (summary_proper texts.charts texts.verdicts number) given told s t x y d e p q
 
 pub one : AreDecided → IsOne Answers
 one texts given told s t x y d e p q = one_command texts (command_of given.words) given told s t x y d e p q
@@ -82,6 +85,7 @@ only_command texts (Some (Suite bound named)) given sources put source is h = (S
 only_command texts (Some (Run bound named)) given sources put source is h = (Run bound named, is, (run_ends_proper texts verdict_lines bound named).only given sources source h.1)
 only_command texts (Some Replay) given sources put source is h = (Replay, is, (replay_ends_proper texts).only given sources source h.1)
 only_command texts (Some (Json bound named)) given sources put source is h = (Json bound named, is, (run_ends_proper texts json_text bound named).only given sources source h.1)
+only_command texts (Some (Gen number)) given sources put source is h = (Gen number, is, (summary_proper {may = MayRead (Gen number)} texts.charts texts.verdicts number).only given sources source h.1)
 
 pub only : AreDecided → (given : Given) (sources : List Source) (put : List ℕ) (source : Source) → Answers given sources (answer put (Err (Departed (Unread source)))) → IsNamed given source
 only texts given sources put source h = only_command texts (command_of given.words) given sources put source refl h

@@ -3,7 +3,7 @@ use Rattle.std.specs.Prelude.{◌≡◌, ℕ, Bool, true, List, [], ◌⊎◌, O
 use Rattle.suite_model.specs.Text.{suite_text}
 use Rattle.verdict_report.specs.Json.{json_text}
 use Rattle.command_words.specs.declared.command.Command.{Command}
-use Rattle.command_words.specs.declared.command.Command.TheVariants.{Play, Classes, Suite, Run, Json, Replay}
+use Rattle.command_words.specs.declared.command.Command.TheVariants.{Play, Classes, Suite, Run, Json, Replay, Gen}
 use Rattle.command_words.specs.Command.{command_of}
 use Rattle.command_stages.specs.declared.stop.Source.{Source}
 use Rattle.command_stages.specs.declared.stop.Source.TheVariants.{Word}
@@ -19,6 +19,7 @@ use Rattle.judge_stages.specs.Verdicts.{JudgeAt, JudgeBy, Printing, PrintsVerdic
 use Rattle.run_stages.specs.Implementations.{signature_of}
 use Rattle.run_stages.specs.Stages.{ImplementationAt, FitsOver}
 use Rattle.replay_stages.specs.Suites.{SuiteAt}
+use Rattle.gen_stages.specs.Summary.{SummaryOf}
 use Rattle.command_answers.specs.Play.{play_text}
 
 -- the chart, the word over it, and the chart's replies to the word
@@ -55,6 +56,7 @@ AnswersCommand (Some (Suite bound named)) given sources one = Whole (SuiteEnds b
 AnswersCommand (Some (Run bound named)) given sources one = Whole (RunEnds verdict_lines bound named) given sources one
 AnswersCommand (Some (Json bound named)) given sources one = Whole (RunEnds json_text bound named) given sources one
 AnswersCommand (Some Replay) given sources one = Whole ReplayEnds given sources one
+AnswersCommand (Some (Gen number)) given sources one = Whole (SummaryOf number) given sources one
 
 -- the answer to the words and the texts that the shelf holds, where it tells them, and the texts that are taken up for it
 abbrev pub Answers : Answering
@@ -73,6 +75,7 @@ MayRead (Suite bound named) source = (source ≡ Word 1) ⊎ ((named ≡ true) �
 MayRead (Run bound named) source = MayReadRun named source
 MayRead (Json bound named) source = MayReadRun named source
 MayRead Replay source = (source ≡ Word 1) ⊎ (source ≡ Word 2)
+MayRead (Gen number) source = ⊥
 
 -- the words are a command, and the source is one of its texts
 abbrev pub IsNamed : Given → Source → Type 0

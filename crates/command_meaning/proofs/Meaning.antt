@@ -19,7 +19,7 @@ use Rattle.guard_atoms.specs.Atoms.{atoms_in}
 use Rattle.lin_form.specs.Atom.{inequality_of}
 use Rattle.input_classes.specs.VectorSet.{VectorSet}
 use Rattle.command_words.specs.declared.command.Command.{Command}
-use Rattle.command_words.specs.declared.command.Command.TheVariants.{Play, Classes, Suite, Run as RunSuite, Json, Replay}
+use Rattle.command_words.specs.declared.command.Command.TheVariants.{Play, Classes, Suite, Run as RunSuite, Json, Replay, Gen}
 use Rattle.command_words.specs.Command.{command_of, IsCommand}
 use Rattle.command_stages.specs.declared.stop.Source.{Source}
 use Rattle.command_stages.specs.declared.stop.Stop.{Stop}
@@ -30,11 +30,15 @@ use Rattle.command_stages.specs.Texts.{ChartAt}
 use Rattle.class_stages.specs.Classes.{IsChartPartition, ClassesOver}
 use Rattle.class_stages.specs.Cutting.{CutsAt}
 use Rattle.class_stages.specs.Text.{classes_text}
-use Rattle.suite_stages.specs.Suites.{SuiteOver}
+use Rattle.suite_stages.specs.Suites.{SuiteOver, IsLeastSuite, LeastSuiteOver}
+use Rattle.suite_making.specs.declared.making.LeastSuite.{LeastSuite}
 use Rattle.suite_model.specs.Text.{suite_text}
 use Rattle.impl_table.specs.Fitting.{first_difference}
 use Rattle.subject.specs.Domain.{IsFitting}
 use Rattle.run_stages.specs.declared.implementation.Implementation.{Implementation}
+use Rattle.run_stages.specs.declared.implementation.Implementation.TheVariants.{Chart as OfChart}
+use Rattle.gen_stages.specs.Summary.{SummaryOf, summary_text}
+use Rattle.command_meaning.specs.Generated.{IsSummaryOf}
 use Rattle.run_stages.specs.Implementations.{signature_of}
 use Rattle.verdict_report.specs.Json.{json_text}
 use Rattle.judge_stages.specs.Verdicts.{Judgement, Printing, is_pass, printed_verdict, verdict_lines}
@@ -158,6 +162,35 @@ is_replay given sources passes text (suite, a, b, c, is_suite, (i, d, e, f, is, 
       shows = shows_replay (tests_of suite) i v judged.1;
     }
 
+least_over : (chart : Chart) (r : Partition) (given : Given) (sources : List Source) (l : LeastSuite) → LeastSuiteOver chart r given sources (Ok l) → IsLeastSuite chart r l
+unfolding Then Unless Is
+least_over chart r given sources l (a, b, c, d, e, (f, g, h, i, j, (k, q, m, n, o, p))) = p.1
+
+is_summary : (number : ℕ) (given : Given) (sources : List Source) (passes : Bool) (text : List ℕ) → SummaryOf number given sources (Ok (record { passes = passes; text = text })) → (passes ≡ true) × IsSummaryOf number text
+unfolding Then Is
+is_summary number given sources passes text (chart, a, b, c, is_chart, (r, d, e, f, are, (l, g, h, i, made, (other, j, k, m, is_other, (judgement, n, o, p, (v, q, s, t, judged, made_of), printed))))) =
+    let partition = classes_over chart [] given d r are in
+    let least = least_over chart r given g l made in
+    let same = printed.1 ∙ ap (λ (x : Judgement). let y : Printed = record { passes = true; text = summary_text number l.configurations x } in y) made_of.1 in (
+      passes_of text (summary_text number l.configurations (record { suite = l.suite; verdict = v })) passes true same,
+      record {
+        chart = chart;
+        is_chart = is_chart.1;
+        partition = r;
+        is_partition = partition;
+        configurations = l.configurations;
+        reached = least.configurations;
+        suite = l.suite;
+        shape = least.shape;
+        other = other;
+        is_other = is_other.1;
+        verdict = v;
+        is_verdict = judged.1;
+        same_text = text_of text (summary_text number l.configurations (record { suite = l.suite; verdict = v })) passes true same;
+        shows = shows chart r l.suite.states l.suite (OfChart other) v (covers chart [] r partition) least.shape judged.1;
+      },
+    )
+
 shown : ActAlike → (o : Option Command) (given : Given) (sources : List Source) (passes : Bool) (text : List ℕ) → AnswersCommand o given sources (record { put = text; ends = Ok passes }) → Means o given passes text
 shown law None given sources passes text h = let e : Ok passes ≡ Err NoCommand = (λ i. (h.1 i).ends) in absurd cc
 shown law (Some Play) given sources passes text h = plays given sources passes text h
@@ -165,6 +198,7 @@ shown law (Some (Classes named)) given sources passes text h = are_classes law n
 shown law (Some (Suite bound named)) given sources passes text h = is_suite law bound named given sources passes text h
 shown law (Some (RunSuite bound named)) given sources passes text h = is_run verdict_lines bound named given sources passes text h
 shown law (Some Replay) given sources passes text h = is_replay given sources passes text h
+shown law (Some (Gen number)) given sources passes text h = is_summary number given sources passes text h
 shown law (Some (Json bound named)) given sources passes text h = is_run json_text bound named given sources passes text h
 
 pub meant : ActAlike → (run : Run) (passes : Bool) → IsRun Answers (IsCommand run.words) run (Ok passes) → PutsMeaning (command_of run.words) run passes

@@ -1,4 +1,5 @@
 pub mod Inputs
 pub mod Runs
 pub mod Replays
+pub mod Generated
 pub mod Means

@@ -9,7 +9,7 @@ use Rattle.subject.specs.Suite.{SuiteParts, tests_of}
 use Rattle.suite_model.specs.Text.{suite_text}
 use Rattle.verdict_report.specs.Json.{json_text}
 use Rattle.command_words.specs.declared.command.Command.{Command}
-use Rattle.command_words.specs.declared.command.Command.TheVariants.{Classes, Suite, Run as RunSuite, Json, Replay}
+use Rattle.command_words.specs.declared.command.Command.TheVariants.{Classes, Suite, Run as RunSuite, Json, Replay, Gen}
 use Rattle.command_stages.specs.Stage.{Given}
 use Rattle.command_stages.specs.Serve.{Run, given_of}
 use Rattle.class_stages.specs.Text.{classes_text}
@@ -17,6 +17,7 @@ use Rattle.judge_stages.specs.Verdicts.{verdict_lines}
 use Rattle.command_meaning.specs.Inputs.{AreInputsOf}
 use Rattle.command_meaning.specs.Runs.{IsRunOf}
 use Rattle.command_meaning.specs.Replays.{IsReplayOf}
+use Rattle.command_meaning.specs.Generated.{IsSummaryOf}
 
 -- the text is that of the classes of the held chart and cuts, and the members of each act alike in the chart
 pub record AreClassesOf (named : Bool) (given : Given) (text : List ℕ) : Type 0 where
@@ -42,6 +43,7 @@ Means (Some (Suite bound named)) given passes text = (passes ≡ true) × IsSuit
 Means (Some (RunSuite bound named)) given passes text = IsRunOf verdict_lines bound named given passes text
 Means (Some (Json bound named)) given passes text = IsRunOf json_text bound named given passes text
 Means (Some Replay) given passes text = IsReplayOf given passes text
+Means (Some (Gen number)) given passes text = (passes ≡ true) × IsSummaryOf number text
 Means other given passes text = passes ≡ true
 
 -- a text was put to `out`, and this is what it shows

@@ -83,7 +83,8 @@ impl Line {
         }
     }
 
-    fn push_decimal(&mut self, number: usize)
+    /// Adds a number in decimal digits.
+    pub fn push_decimal(&mut self, number: usize)
         requires { length self.old + 20 ≤ 320 }
         ensures bytes { self.new ≡ self.old ++ decimal number }
         ensures short { length self.new ≤ length self.old + 20 }

@@ -2,10 +2,11 @@
 use Rattle.std.specs.Prelude.{◌≡◌, ℕ, ◌-◌, ◌≤◌, Bool, true, false, not, ◌&&◌, nat_lt, nat_le, if◌then◌else◌, List, [], ◌∷◌, length, codes, Option, None, Some, slice_get, unwrap_or, is_some}
 use Rattle.std.specs.Char.{is_ascii_digit}
 use Rattle.std.specs.List.{list_all}
+use Rattle.std.specs.Option.{option_map}
 use Rattle.std.specs.Str.{bytes_eq}
 use Rattle.std.specs.Str.Parse.{digits_value}
 use Rattle.command_words.specs.declared.command.Command.{Command}
-use Rattle.command_words.specs.declared.command.Command.TheVariants.{Play, Classes, Suite, Run, Json, Replay}
+use Rattle.command_words.specs.declared.command.Command.TheVariants.{Play, Classes, Suite, Run, Json, Replay, Gen}
 use Rattle.command_words.specs.declared.command.Verb.{Verb}
 use Rattle.command_words.specs.declared.command.Verb.TheVariants as verb
 use Rattle.command_words.specs.declared.command.Place.{Place}
@@ -30,6 +31,9 @@ number_of word =
 
 abbrev pub bound_at : List (List ℕ) → ℕ → ℕ
 bound_at words number = bound_of (word_at words number)
+
+abbrev pub number_at : List (List ℕ) → ℕ → Option ℕ
+number_at words number = number_of (word_at words number)
 
 -- a word may stand in a place: a name is not empty, a bound is from 1 to 1,024, and a number is up to 4,294,967,295
 abbrev pub takes : Place → List ℕ → Bool
@@ -98,7 +102,7 @@ verb_of word =
     else None
 
 -- the command that words after a verb are where they stand in its places: play CHART WORD; classes CHART CUTS;
--- suite CHART M CUTS; run CHART M CUTS IMPL; json CHART M CUTS IMPL; replay SUITE IMPL; the program does nothing else yet
+-- suite CHART M CUTS; run CHART M CUTS IMPL; json CHART M CUTS IMPL; replay SUITE IMPL; gen S; the program does nothing else yet
 abbrev pub command_for : Verb → List (List ℕ) → Option Command
 command_for verb.Play words = Some Play
 command_for verb.Classes words = Some (Classes (names_text words 1))
@@ -106,6 +110,7 @@ command_for verb.Suite words = Some (Suite (bound_at words 1) (names_text words 
 command_for verb.Run words = Some (Run (bound_at words 1) (names_text words 2))
 command_for verb.Json words = Some (Json (bound_at words 1) (names_text words 2))
 command_for verb.Replay words = Some Replay
+command_for verb.Gen words = option_map Gen (number_at words 0)
 command_for other words = None
 
 -- the command of a verb and the words after it

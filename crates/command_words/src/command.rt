@@ -1,7 +1,7 @@
 ghost use Rattle.std.specs.Prelude.{◌≡◌, true, IfSome, map, string_bytes};
 ghost use Rattle.command_words.specs.Command.{IsBounded, command_for, command_of, command_with, fits_places, inputs_of, is_input, names_text, places_of, takes, verb_of};
 
-use crate::number::{bound_at, bound_of, number_of};
+use crate::number::{bound_at, bound_of, number_at, number_of};
 
 /// What the program is asked to do.
 #[derive(Clone, Copy, PartialEq, Eq, Debug)]
@@ -18,6 +18,8 @@ pub enum Command {
     Json { bound: usize, cuts: bool },
     /// The verdict on an implementation by a suite that is read.
     Replay,
+    /// The chart of a number, summed up, and the verdict on another number's chart by its suite.
+    Gen { number: u32 },
 }
 
 /// What the first word asks for. The program does not do all of it yet.
@@ -195,7 +197,11 @@ fn command_for(verb: Verb, words: &[String]) -> Option<Command>
             let cuts = names_text(words, 2);
             Some(Command::Json { bound, cuts })
         }
-        Verb::Gen | Verb::SuiteWp | Verb::Domain | Verb::Mutants | Verb::Ask => None,
+        Verb::Gen => {
+            let number = number_at(words, 0)?;
+            Some(Command::Gen { number })
+        }
+        Verb::SuiteWp | Verb::Domain | Verb::Mutants | Verb::Ask => None,
     }
 }
 

@@ -1,7 +1,7 @@
 ghost use Rattle.std.specs.Prelude.{◌≡◌, map, string_bytes};
 ghost use Rattle.std.specs.Char.{is_ascii_digit};
 ghost use Rattle.std.specs.List.{list_all};
-ghost use Rattle.command_words.specs.Command.{bound_of, bound_at, number_of};
+ghost use Rattle.command_words.specs.Command.{bound_of, bound_at, number_at, number_of};
 
 fn are_digits(word: &[u8]) -> bool
     ensures { result ≡ list_all is_ascii_digit word.now }
@@ -42,5 +42,15 @@ pub fn number_of(word: &str) -> Option<u32>
     match word.parse::<u32>() {
         Ok(number) => Some(number),
         Err(_) => None,
+    }
+}
+
+/// The number that the word with this number, counted from 0, writes, if it writes one.
+pub fn number_at(words: &[String], number: usize) -> Option<u32>
+    ensures { result ≡ number_at (map string_bytes words.now) number }
+{
+    match words.get(number) {
+        Some(word) => number_of(word.as_str()),
+        None => None,
     }
 }

@@ -22,6 +22,11 @@ fn run(bound: usize) -> Option<Command> {
     Some(Command::Run { bound, cuts })
 }
 
+/// The chart of a number.
+fn generated(number: u32) -> Option<Command> {
+    Some(Command::Gen { number })
+}
+
 fn words_of(alloc: Global, line: &str) -> Result<Vec<String>, AllocError> {
     let mut words = Vec::new(alloc);
     for word in line.split(' ') {
@@ -148,11 +153,29 @@ fn replays(rt: HostRuntime) -> Result<(), Fail> {
     Ok(check(&rt, rt.alloc(), &cases)?)
 }
 
+#[test]
+fn numbers(rt: HostRuntime) -> Result<(), Fail> {
+    let cases = [
+        is("gen 0", generated(0)),
+        is("gen 37", generated(37)),
+        is("gen 0000000038", generated(38)),
+        is("gen 4294967295", generated(4_294_967_295)),
+        is("gen 4294967296", None),
+        is("gen 00000000038", None),
+        is("gen", None),
+        is("gen ", None),
+        is("gen -", None),
+        is("gen +1", None),
+        is("gen 1 1", None),
+        is("gen x", None),
+    ];
+    Ok(check(&rt, rt.alloc(), &cases)?)
+}
+
 // The verbs that stand in the table of places and are not built yet.
 #[test]
 fn no_commands_yet(rt: HostRuntime) -> Result<(), Fail> {
     let cases = [
-        is("gen 0", None),
         is("suite-wp A 2 none", None),
         is("domain A 2 none A", None),
         is("mutants A 2 none", None),

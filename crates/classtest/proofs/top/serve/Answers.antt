@@ -1,9 +1,10 @@
 use Rattle.std.proofs.Common.{◌≡◌, ◌∙◌, sym, map, Some}
 use Rattle.std.specs.Prelude.{string_bytes}
 use Rattle.command_words.specs.Command.{command_of}
-use Rattle.command_words.specs.declared.command.Command.TheVariants.{Play, Classes, Suite, Run, Json, Replay}
+use Rattle.command_words.specs.declared.command.Command.TheVariants.{Play, Classes, Suite, Run, Json, Replay, Gen}
 use Rattle.verdict_report.specs.Json.{json_text}
 use Rattle.judge_stages.specs.Verdicts.{verdict_lines}
+use Rattle.gen_stages.specs.Summary.{SummaryOf}
 use Rattle.command_answers.specs.Ends.{PlayEnds, ClassesEnds, SuiteEnds, RunEnds, ReplayEnds}
 use Rattle.classtest.proofs.Arms.{as_command, whole}
 use Rattle.classtest.proofs.top.serve.Goals as goal
@@ -44,3 +45,9 @@ pub returns-in-Some-Replay : goal.returns-in-Some-Replay
 returns-in-Some-Replay g c =
     let e : command_of (map string_bytes c.args.words.now) ≡ Some Replay = sym (rw c.in-Some-Replay.field-0-is at c.in-Some-Replay.ensures.value) in
     as_command e (whole Replay ReplayEnds e c.replay.ensures c.finish-in-Some-Replay.ensures)
+
+pub returns-in-Some-Gen : goal.returns-in-Some-Gen
+returns-in-Some-Gen g c =
+    let number = c.in-Some-Gen.number in
+    let e : command_of (map string_bytes c.args.words.now) ≡ Some (Gen number) = sym (rw c.in-Some-Gen.field-0-is at c.in-Some-Gen.ensures.value) in
+    as_command e (whole (Gen number) (SummaryOf number) e (c.summary_of.ensures _ _) c.finish-in-Some-Gen.ensures)
