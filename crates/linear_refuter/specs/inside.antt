@@ -4,3 +4,4 @@ pub mod Halving
 pub mod Decision
 pub mod Ends
 pub mod Looking
+pub mod Parting

@@ -5,10 +5,12 @@
 mod check;
 mod clash;
 mod decision;
+mod form_cut;
 mod guess;
 mod halving;
 mod hint;
 mod implication;
+mod lattice;
 mod law;
 mod part;
 mod point;

@@ -6,9 +6,10 @@ ghost use Rattle.linear_refuter.specs.Sum.{IsShaped};
 ghost use Rattle.linear_refuter.specs.inside.Halving.{HasBits};
 ghost use Rattle.linear_refuter.specs.TightPart.{lows, IsTightened, IsCorner};
 ghost use Rattle.linear_refuter.specs.Answer.{HasNone, IsVectorOf};
-ghost use Rattle.linear_refuter.specs.inside.Looking.{IsLook};
+ghost use Rattle.linear_refuter.specs.inside.Looking.{IsGlance, IsLook};
 
 use crate::Part;
+use crate::form_cut::halves_by_form;
 use crate::guess::dive;
 use crate::halving::halving;
 use crate::hint::{Few, Trim, ceiling, floor};
@@ -22,8 +23,9 @@ use std::num::saturating_f64_to_i64;
 
 /// A vector of the part on which every literal is as it says, if there is one.
 ///
-/// It gives no refutation, so it may cut off every bound at once where a sum refutes what is cut off. It takes no memory;
-/// the tableau may hold anything before.
+/// It gives no refutation, so it may cut off every bound at once where a sum refutes what is cut off, and where many
+/// boxes were looked at, it may split on any sum of the variables. It takes memory then, and does without where none is
+/// left; the tableau may hold anything before.
 pub fn seek(
     alloc: Global,
     literals: &[Literal],
@@ -33,15 +35,73 @@ pub fn seek(
     requires { IsShaped literals.now part.now }
     ensures { MatchOption result (HasNone literals.now part.now) (λ x. IsVectorOf literals.now part.now x) }
 {
-    search(alloc, literals, part, relaxation, 21 * part.inputs())
+    relaxation.start();
+    match short_search(alloc, literals, part, relaxation, DEPTH) {
+        Glance::Empty => None,
+        Glance::Found(vector) => Some(vector),
+        Glance::Spent => search(alloc, literals, part, relaxation, 21 * part.inputs(), TURNS),
+    }
 }
 
+/// How many halvings stand on a way of a short search, at most.
+const DEPTH: usize = 100;
+/// How many splits by a sum stand on a way, at most.
+const TURNS: usize = 100;
+
+/// What a short search shows: that there is no vector, one, or nothing yet.
+#[derive(Drop)]
+enum Glance {
+    Empty,
+    Found(Vector),
+    Spent,
+}
+
+/// A search by halving ranges, which ends where many boxes were looked at.
+fn short_search(
+    alloc: Global,
+    literals: &[Literal],
+    part: &Part,
+    relaxation: &mut Relaxation,
+    left: usize,
+) -> Glance
+    requires { IsShaped literals.now part.now }
+    ensures { IsGlance literals.now part.now result }
+{
+    if left == 0 || relaxation.is_spent() {
+        return Glance::Spent;
+    }
+    match look_at(alloc, literals, part, relaxation) {
+        Look::Empty => Glance::Empty,
+        Look::Found(vector) => Glance::Found(vector),
+        Look::Open(tight, variable) => {
+            let Some(cut) = halving(&tight, variable) else {
+                return Glance::Spent;
+            };
+            let below = tight.below(cut.0, cut.1);
+            match short_search(alloc, literals, &below, relaxation, left - 1) {
+                Glance::Found(vector) => Glance::Found(vector),
+                Glance::Spent => Glance::Spent,
+                Glance::Empty => {
+                    let above = tight.above(cut.0, cut.1);
+                    match short_search(alloc, literals, &above, relaxation, left - 1) {
+                        Glance::Found(vector) => Glance::Found(vector),
+                        Glance::Spent => Glance::Spent,
+                        Glance::Empty => Glance::Empty,
+                    }
+                }
+            }
+        }
+    }
+}
+
+/// A search by halving sums of the variables, and ranges where there is none.
 fn search(
     alloc: Global,
     literals: &[Literal],
     part: &Part,
     relaxation: &mut Relaxation,
     left: usize,
+    turns: usize,
 ) -> Option<Vector>
     requires shaped { IsShaped literals.now part.now }
     requires bits { HasBits part.now left }
@@ -51,15 +111,37 @@ fn search(
         Look::Empty => None,
         Look::Found(vector) => Some(vector),
         Look::Open(tight, variable) => {
+            if turns > 0 {
+                if let Some(halves) = halves_by_form(alloc, literals, &tight, relaxation) {
+                    if let Some(vector) = search(
+                        alloc,
+                        halves.low.as_slice(),
+                        &tight,
+                        relaxation,
+                        left,
+                        turns - 1,
+                    ) {
+                        return Some(vector);
+                    }
+                    return search(
+                        alloc,
+                        halves.high.as_slice(),
+                        &tight,
+                        relaxation,
+                        left,
+                        turns - 1,
+                    );
+                }
+            }
             let Some(cut) = halving(&tight, variable) else {
                 return None;
             };
             let below = tight.below(cut.0, cut.1);
-            if let Some(vector) = search(alloc, literals, &below, relaxation, left - 1) {
+            if let Some(vector) = search(alloc, literals, &below, relaxation, left - 1, turns) {
                 return Some(vector);
             }
             let above = tight.above(cut.0, cut.1);
-            search(alloc, literals, &above, relaxation, left - 1)
+            search(alloc, literals, &above, relaxation, left - 1, turns)
         }
     }
 }
