@@ -13,7 +13,7 @@ use std::alloc::Global;
 /// The least vector of a part on which every literal is as it says, from one such vector.
 ///
 /// The part is tightened again and again. Its first range with two numbers is cut off above the vector's number, and
-/// then a lower part is asked for, at first one that ends where the relaxation begins. It takes no memory.
+/// then a lower part is asked for, at first one that ends where the relaxation begins.
 pub fn least_from(alloc: Global, literals: &[Literal], part: &Part, vector: Vector) -> Vector
     requires shaped { IsShaped literals.now part.now }
     requires inside { IsInRanges part.now vector }
