@@ -14,7 +14,7 @@ use Rattle.linear_refuter.specs.Cut.{IsCut, below, above}
 use Rattle.linear_refuter.specs.Sum.{signed, shifted, coefficients_of, constraint, constraint_at, IsShaped}
 use Rattle.linear_refuter.specs.Answer.{HasNone}
 use Rattle.linear_refuter.specs.TightPart.{IsTightened}
-use Rattle.linear_refuter.specs.inside.Ends.{AreBoxEnds, IsSlack, IsNarrowed}
+use Rattle.linear_refuter.specs.inside.Ends.{AreBoxEnds, IsSlack, IsShrunk}
 use Rattle.linear_refuter.proofs.Integers.{mul_le_positive}
 use Rattle.linear_refuter.proofs.Cuts.{split_in}
 use Rattle.linear_refuter.proofs.Said.{said_at, said_constraint, sum_signed}
@@ -43,17 +43,17 @@ below_limit false s b e h = omega (arith, ints)
 pub said_below : (l : Literal) (x : List ℤ) → l.holds ≡ false → IsAsSaid l x → sum_of_products l.atom.coefficients x ≤ℤ ((pos 0 -ℤ l.atom.constant) -ℤ pos 1)
 said_below l x e s = below_limit l.holds (sum_of_products l.atom.coefficients x) l.atom.constant e (rw sum_signed at (said_constraint l x s))
 
-pub IsNarrowed-same : (l : Literal) (rs : List (ℤ × ℤ)) → IsNarrowed l rs rs
-IsNarrowed-same l rs = record { within = within_itself rs; keeps = λ x h k. h }
+pub IsShrunk-same : (l : Literal) (rs : List (ℤ × ℤ)) → IsShrunk l rs rs
+IsShrunk-same l rs = record { within = within_itself rs; keeps = λ x h k. h }
 
-pub IsNarrowed-then : (l : Literal) (rs ss ts : List (ℤ × ℤ)) → IsNarrowed l rs ss → IsNarrowed l ss ts → IsNarrowed l rs ts
-IsNarrowed-then l rs ss ts h k = record { within = within_then ts ss rs k.within h.within; keeps = λ x i s. k.keeps x (h.keeps x i s) s }
+pub IsShrunk-then : (l : Literal) (rs ss ts : List (ℤ × ℤ)) → IsShrunk l rs ss → IsShrunk l ss ts → IsShrunk l rs ts
+IsShrunk-then l rs ss ts h k = record { within = within_then ts ss rs k.within h.within; keeps = λ x i s. k.keeps x (h.keeps x i s) s }
 
-pub IsSlack-narrowed : (l : Literal) (rs ss : List (ℤ × ℤ)) (slack : ℤ) → IsNarrowed l rs ss → IsSlack l rs slack → IsSlack l ss slack
+pub IsSlack-narrowed : (l : Literal) (rs ss : List (ℤ × ℤ)) (slack : ℤ) → IsShrunk l rs ss → IsSlack l rs slack → IsSlack l ss slack
 IsSlack-narrowed l rs ss slack n h x i = h x (within_in ss rs x n.within i)
 
 -- the vectors on which all literals are as they say are among those on which one's constraint holds
-pub IsTightened-narrowed : (ls : List Literal) (i : ℕ) (l : Literal) (rs ss : List (ℤ × ℤ)) → i < length ls → l ≡ get_or ls i l → IsNarrowed l rs ss → IsTightened ls rs ss
+pub IsTightened-narrowed : (ls : List Literal) (i : ℕ) (l : Literal) (rs ss : List (ℤ × ℤ)) → i < length ls → l ≡ get_or ls i l → IsShrunk l rs ss → IsTightened ls rs ss
 IsTightened-narrowed ls i l rs ss h q n = record {
   within = n.within;
   keeps = λ x k s.
@@ -134,9 +134,9 @@ turned a u v =
     let f = ap (λ t. a *ℤ t) e in
     omega (arith, ints, p, q, f, y)
 
-pub IsNarrowed-above : (l : Literal) (rs : List (ℤ × ℤ)) (v : ℕ) (r : ℤ × ℤ) (a at slack : ℤ) → v < length rs → slice_get rs v ≡ Some r → IsCut rs v at → r.0 ≤ℤ r.1 → get_or (coefficients_of l) v (pos 0) ≡ a → pos 0 ≤ℤ a → IsSlack l rs slack → slack <ℤ (a *ℤ (r.1 -ℤ at))
-    → IsNarrowed l rs (above rs v at)
-IsNarrowed-above l rs v r a at slack w s c o e h k g = record {
+pub IsShrunk-above : (l : Literal) (rs : List (ℤ × ℤ)) (v : ℕ) (r : ℤ × ℤ) (a at slack : ℤ) → v < length rs → slice_get rs v ≡ Some r → IsCut rs v at → r.0 ≤ℤ r.1 → get_or (coefficients_of l) v (pos 0) ≡ a → pos 0 ≤ℤ a → IsSlack l rs slack → slack <ℤ (a *ℤ (r.1 -ℤ at))
+    → IsShrunk l rs (above rs v at)
+IsShrunk-above l rs v r a at slack w s c o e h k g = record {
   within = above_within rs v at c;
   keeps = λ x i p. elim (split_in rs v at x i) [
     | inl b ↦
@@ -149,9 +149,9 @@ IsNarrowed-above l rs v r a at slack w s c o e h k g = record {
   ];
 }
 
-pub IsNarrowed-below : (l : Literal) (rs : List (ℤ × ℤ)) (v : ℕ) (r : ℤ × ℤ) (a at slack : ℤ) → v < length rs → slice_get rs v ≡ Some r → IsCut rs v at → r.0 ≤ℤ r.1 → get_or (coefficients_of l) v (pos 0) ≡ a → pos 0 ≤ℤ (pos 0 -ℤ a) → IsSlack l rs slack → slack <ℤ ((pos 0 -ℤ a) *ℤ ((at +ℤ pos 1) -ℤ r.0))
-    → IsNarrowed l rs (below rs v at)
-IsNarrowed-below l rs v r a at slack w s c o e h k g = record {
+pub IsShrunk-below : (l : Literal) (rs : List (ℤ × ℤ)) (v : ℕ) (r : ℤ × ℤ) (a at slack : ℤ) → v < length rs → slice_get rs v ≡ Some r → IsCut rs v at → r.0 ≤ℤ r.1 → get_or (coefficients_of l) v (pos 0) ≡ a → pos 0 ≤ℤ (pos 0 -ℤ a) → IsSlack l rs slack → slack <ℤ ((pos 0 -ℤ a) *ℤ ((at +ℤ pos 1) -ℤ r.0))
+    → IsShrunk l rs (below rs v at)
+IsShrunk-below l rs v r a at slack w s c o e h k g = record {
   within = below_within rs v at c;
   keeps = λ x i p. elim (split_in rs v at x i) [
     | inl b ↦ b

@@ -3,7 +3,7 @@ ghost use Rattle.lin_form.specs.Atom.{IsAsSaid, atom_truth, AreAsSaid};
 ghost use Rattle.lin_form.specs.Form.{sum_of_products};
 ghost use Rattle.lin_form.specs.Range.{IsRange};
 ghost use Rattle.linear_refuter.specs.Answer.{HasTruth};
-ghost use Rattle.linear_refuter.specs.SumEnds.{AreSumEnds, IsBetween};
+ghost use Rattle.linear_refuter.specs.SumEnds.{AreSumEnds, LiesBetween};
 ghost use Rattle.linear_refuter.specs.inside.Ends.{AreBoxEnds, AreProductEnds};
 
 use crate::Part;
@@ -23,7 +23,7 @@ pub fn implied(literals: &[Literal], part: &Part, atom: &Atom) -> Option<bool>
 
 /// The truth that an atom has where the sum with its coefficients lies between these ends, if they tell it.
 pub fn told(atom: &Atom, ends: (i64, i64)) -> Option<bool>
-    ensures { IfSome result (λ t. (x : List ℤ) → IsBetween ends (sum_of_products atom.now.coefficients x)
+    ensures { IfSome result (λ t. (x : List ℤ) → LiesBetween ends (sum_of_products atom.now.coefficients x)
         → atom_truth atom.now x ≡ t) }
 {
     let limit = -atom.constant;
@@ -51,8 +51,8 @@ pub fn sum_ends(literals: &[Literal], part: &Part, atom: &Atom) -> (i64, i64)
 
 /// The same ends, or nearer ones where the literal has the atom's coefficients.
 fn nearer(ends: (i64, i64), literal: &Literal, atom: &Atom) -> (i64, i64)
-    ensures { (x : List ℤ) → IsAsSaid literal.now x → IsBetween ends (sum_of_products atom.now.coefficients x)
-        → IsBetween result (sum_of_products atom.now.coefficients x) }
+    ensures { (x : List ℤ) → IsAsSaid literal.now x → LiesBetween ends (sum_of_products atom.now.coefficients x)
+        → LiesBetween result (sum_of_products atom.now.coefficients x) }
 {
     if !are_same(&literal.atom.coefficients, &atom.coefficients) {
         return ends;

@@ -231,7 +231,7 @@ fn low_end(relaxation: &mut Relaxation, variable: usize) -> Trim {
         variable,
         at: saturating_f64_to_i64(least - 1.0),
         from_below: true,
-        sum: relaxation.sum_at(variable),
+        sum: sum_if(relaxation, variable, least > relaxation.lower(variable)),
     }
 }
 
@@ -243,7 +243,16 @@ fn high_end(relaxation: &mut Relaxation, variable: usize) -> Trim {
         variable,
         at: saturating_f64_to_i64(greatest),
         from_below: false,
-        sum: relaxation.sum_at(variable),
+        sum: sum_if(relaxation, variable, greatest < relaxation.upper(variable)),
+    }
+}
+
+/// The sum that bounds a variable where it is, if it is of use.
+fn sum_if(relaxation: &Relaxation, variable: usize, is_useful: bool) -> Few {
+    if is_useful {
+        relaxation.sum_at(variable)
+    } else {
+        Few::none()
     }
 }
 

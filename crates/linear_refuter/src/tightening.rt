@@ -2,7 +2,7 @@ ghost use Rattle.std.specs.Prelude.{◌≡◌, ◌≤◌, ◌<◌, ◌*ℤ◌, �
 ghost use Rattle.linear_refuter.specs.Sum.{IsShaped};
 ghost use Rattle.linear_refuter.specs.Answer.{HasNone};
 ghost use Rattle.linear_refuter.specs.TightPart.{IsTightened};
-ghost use Rattle.linear_refuter.specs.inside.Ends.{IsNarrowed, IsSlack};
+ghost use Rattle.linear_refuter.specs.inside.Ends.{IsShrunk, IsSlack};
 
 use crate::implication::box_ends;
 use crate::sum::is_refuted_by;
@@ -76,8 +76,11 @@ fn slack_of(literal: &Literal, part: &Part) -> i64
 fn narrowed(literal: &Literal, part: &Part, slack: i64) -> Part
     requires width { length literal.now.atom.coefficients ≡ length part.now }
     requires slack { IsSlack literal.now part.now slack }
-    ensures { IsNarrowed literal.now part.now result }
+    ensures { IsShrunk literal.now part.now result }
 {
+    if !may_be_cut(literal, part, slack) {
+        return part.copy();
+    }
     let mut tight = part.copy();
     for variable in 0..part.inputs() {
         tight = narrowed_at(literal, tight, variable, slack);
@@ -85,12 +88,26 @@ fn narrowed(literal: &Literal, part: &Part, slack: i64) -> Part
     tight
 }
 
+/// Whether the constraint falls by more than the slack along some variable. It is a guess.
+fn may_be_cut(literal: &Literal, part: &Part, slack: i64) -> bool {
+    let ranges = part.as_slice();
+    for (variable, coefficient) in literal.atom.coefficients.as_slice().iter().enumerate() {
+        if let Some(range) = ranges.get(variable) {
+            let fall = coefficient.wrapping_mul(range.1.wrapping_sub(range.0));
+            if fall > slack || fall.wrapping_neg() > slack {
+                return true;
+            }
+        }
+    }
+    false
+}
+
 /// The same for one variable.
 fn narrowed_at(literal: &Literal, part: Part, variable: usize, slack: i64) -> Part
     requires width { length literal.now.atom.coefficients ≡ length part }
     requires variable { variable < length part }
     requires slack { IsSlack literal.now part slack }
-    ensures { IsNarrowed literal.now part result }
+    ensures { IsShrunk literal.now part result }
 {
     let factor = coefficient(literal, variable);
     let range = part.range(variable);

@@ -1,17 +1,17 @@
 use Rattle.std.proofs.Common.{rules, FitsSigned, w64, arith, pos, ◌+ℤ◌, ◌-ℤ◌}
 use Rattle.std.proofs.lemmas.Int.{ints, fits_signed_from_abs, to_z-of_z}
 use Rattle.linear_refuter.proofs.Cuts.{cut_at}
-use Rattle.linear_refuter.proofs.Slacks.{IsNarrowed-above, IsNarrowed-below, IsNarrowed-same}
+use Rattle.linear_refuter.proofs.Slacks.{IsShrunk-above, IsShrunk-below, IsShrunk-same}
 use Rattle.linear_refuter.proofs.tightening.narrowed_at.Goals as goal
 
 pub returns-then-not-is_cut : goal.returns-then-not-is_cut
-returns-then-not-is_cut c = IsNarrowed-same c.args.literal.now c.args.part
+returns-then-not-is_cut c = IsShrunk-same c.args.literal.now c.args.part
 
 pub returns-then-factor-gt0 : goal.returns-then-factor-gt0
-returns-then-factor-gt0 c = IsNarrowed-same c.args.literal.now c.args.part
+returns-then-factor-gt0 c = IsShrunk-same c.args.literal.now c.args.part
 
 pub returns : goal.returns
-returns c = IsNarrowed-same c.args.literal.now c.args.part
+returns c = IsShrunk-same c.args.literal.now c.args.part
 
 pub overflow_sub-range : goal.overflow_sub-range
 overflow_sub-range c =
@@ -54,7 +54,7 @@ returns-then-is_product_above c =
     let more = simp to_z-of_z at c.if-is_product_above.ensures in
     let slack = c.requires.slack in
     rw value (
-    IsNarrowed-above c.args.literal.now c.args.part c.args.variable r a at c.args.slack c.requires.variable c.range-range.ensures.value cut ranged.ordered
+    IsShrunk-above c.args.literal.now c.args.part c.args.variable r a at c.args.slack c.requires.variable c.range-range.ensures.value cut ranged.ordered
     c.coefficient-factor.ensures.value
     (omega (arith, ints, positive))
     slack
@@ -117,7 +117,7 @@ returns-then-is_product_above-2 c =
     let more = simp to_z-of_z at c.if-is_product_above-2.ensures in
     let slack = c.requires.slack in
     rw value (
-    IsNarrowed-below c.args.literal.now c.args.part c.args.variable r a at c.args.slack c.requires.variable c.range-range.ensures.value cut ranged.ordered
+    IsShrunk-below c.args.literal.now c.args.part c.args.variable r a at c.args.slack c.requires.variable c.range-range.ensures.value cut ranged.ordered
     c.coefficient-factor.ensures.value
     (omega (arith, ints, positive))
     slack
