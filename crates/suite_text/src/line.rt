@@ -9,7 +9,21 @@ ghost use Rattle.suite_text.specs.inside.Lines.{Pushes, Sets};
 use lin_form::{Input, Name};
 use suite_model::Scratch;
 
-/// Pushes the digits of a number.
+/// Pushes the digits of a number, the last of them last.
+fn push_each_digit(scratch: &mut Scratch, number: u64)
+    requires { length scratch.old.line + length (decimal number) ≤ scratch.old.room }
+    ensures { Pushes scratch.old scratch.new (decimal number) }
+{
+    if number < 10 {
+        scratch.push(b'0' + number as u8);
+        return;
+    }
+    push_each_digit(scratch, number / 10);
+    scratch.push(b'0' + (number % 10) as u8);
+}
+
+/// Pushes the digits of a number, without a call where there is one.
+#[inline(always)]
 fn push_digits(scratch: &mut Scratch, number: u64)
     requires { length scratch.old.line + length (decimal number) ≤ scratch.old.room }
     ensures { Pushes scratch.old scratch.new (decimal number) }
@@ -18,8 +32,7 @@ fn push_digits(scratch: &mut Scratch, number: u64)
         scratch.push(b'0' + number as u8);
         return;
     }
-    push_digits(scratch, number / 10);
-    scratch.push(b'0' + (number % 10) as u8);
+    push_each_digit(scratch, number);
 }
 
 /// Pushes a number.
