@@ -1,0 +1,5 @@
+pub mod Counting
+pub mod Shaped
+pub mod Naming
+pub mod Dividing
+pub mod Printed
