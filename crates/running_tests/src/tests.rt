@@ -5,6 +5,7 @@ ghost use Rattle.lin_form.specs.Signature.{IsInInputRanges};
 ghost use Rattle.suite_reading.specs.State.{AreRuled, no_test};
 ghost use Rattle.running_tests.specs.Alarm.{IsAlarm};
 
+mod charts;
 mod running;
 mod texts;
 
